@@ -1,0 +1,205 @@
+// elf.rs and relaxation.rs, as far as x86-64 uses them.
+ghost use mathlib.Core.Path.{_≡_};
+ghost use Rattle.rules.specs.Range.{unchecked, within, contains, byteRange, signed64, Keeps};
+ghost use Rattle.rules.specs.Types.{dynamicType, kindNumber};
+ghost use Rattle.elf.specs.Elf.{rangeOf, rangeFrom, widthOf, signOf, kindOf, dynamicNumber};
+
+pub enum Sign {
+    Signed,
+    Unsigned,
+}
+
+pub enum RelocationKind {
+    // The absolute address of a symbol or section.
+    Absolute,
+    // The size of a symbol rather than its address.
+    SymbolSize,
+    // The address of the symbol, relative to the place of the relocation.
+    Relative,
+    // The address of the symbol, relative to the base address of the GOT.
+    SymRelGotBase,
+    // The offset of the symbol's GOT entry, relative to the start of the GOT.
+    GotRelGotBase,
+    // The address of the symbol's PLT entry, relative to the base address of the GOT.
+    PltRelGotBase,
+    // The address of the symbol's PLT entry, relative to the place of relocation.
+    PltRelative,
+    // The address of the symbol's GOT entry, relative to the place of the relocation.
+    GotRelative,
+    // The address of a TLSGD structure, relative to the place of the relocation.
+    TlsGd,
+    // The address of the TLS module ID, relative to the place of the relocation.
+    TlsLd,
+    // The offset of a thread-local within the TLS storage of the DSO that defines it.
+    DtpOff,
+    // The address of a GOT entry with a TLS offset, relative to the place of the relocation.
+    GotTpOff,
+    // The offset of a TLS variable within the executable's TLS storage.
+    TpOff,
+    // The address of a TLS descriptor structure, relative to the place of the relocation.
+    TlsDesc,
+    // Call to the TLS descriptor trampoline.
+    TlsDescCall,
+    // No relocation needs to be applied.
+    None,
+}
+
+impl RelocationKind {
+    // The kind's place among these sixteen, from 0.
+    pub fn number(self) -> u8
+        ensures { λ r. ⌜ r ≡ kindNumber (kindOf self) ⌝ }
+    {
+        match self {
+            RelocationKind::Absolute => 0,
+            RelocationKind::SymbolSize => 1,
+            RelocationKind::Relative => 2,
+            RelocationKind::SymRelGotBase => 3,
+            RelocationKind::GotRelGotBase => 4,
+            RelocationKind::PltRelGotBase => 5,
+            RelocationKind::PltRelative => 6,
+            RelocationKind::GotRelative => 7,
+            RelocationKind::TlsGd => 8,
+            RelocationKind::TlsLd => 9,
+            RelocationKind::DtpOff => 10,
+            RelocationKind::GotTpOff => 11,
+            RelocationKind::TpOff => 12,
+            RelocationKind::TlsDesc => 13,
+            RelocationKind::TlsDescCall => 14,
+            RelocationKind::None => 15,
+        }
+    }
+}
+
+pub enum DynamicRelocationKind {
+    Copy,
+    Irelative,
+    DtpMod,
+    DtpOff,
+    TlsDesc,
+    TpOff,
+    Relative,
+    Absolute,
+    GotEntry,
+    JumpSlot,
+}
+
+impl DynamicRelocationKind {
+    pub fn x86_64_r_type(self) -> u32
+        ensures { λ r. ⌜ r ≡ dynamicType (dynamicNumber self) ⌝ }
+    {
+        match self {
+            DynamicRelocationKind::Copy => object::R_X86_64_COPY,
+            DynamicRelocationKind::Irelative => object::R_X86_64_IRELATIVE,
+            DynamicRelocationKind::DtpMod => object::R_X86_64_DTPMOD64,
+            DynamicRelocationKind::DtpOff => object::R_X86_64_DTPOFF64,
+            DynamicRelocationKind::TpOff => object::R_X86_64_TPOFF64,
+            DynamicRelocationKind::Relative => object::R_X86_64_RELATIVE,
+            DynamicRelocationKind::Absolute => object::R_X86_64_64,
+            DynamicRelocationKind::GotEntry => object::R_X86_64_GLOB_DAT,
+            DynamicRelocationKind::TlsDesc => object::R_X86_64_TLSDESC,
+            DynamicRelocationKind::JumpSlot => object::R_X86_64_JUMP_SLOT,
+        }
+    }
+}
+
+// The Rust's `RelocationSize::ByteSize(n)`, the only form that x86-64 uses.
+pub struct RelocationSize {
+    pub byte_size: u8,
+}
+
+// Allowed range (half-open) of a computed value of a relocation. Where it isn't checked, every
+// value is allowed (the Rust's `no_check` leaves out i64::MAX, docs/DIFFERENCES.md), and the ends
+// are 0.
+pub struct AllowedRange {
+    pub checked: bool,
+    pub min: i64,
+    pub max: i64,
+}
+
+// The widths of a field that `from_byte_size` is used at.
+pub enum ByteWidth {
+    One,
+    Two,
+    Four,
+    Eight,
+}
+
+impl AllowedRange {
+    pub fn new(min: i64, max: i64) -> AllowedRange
+        ensures { λ r. ⌜ r ≡ rangeFrom (within min max) ⌝ }
+    {
+        AllowedRange {
+            checked: true,
+            min: min,
+            max: max,
+        }
+    }
+
+    pub fn no_check() -> AllowedRange
+        ensures { λ r. ⌜ r ≡ rangeFrom unchecked ⌝ }
+    {
+        AllowedRange {
+            checked: false,
+            min: 0,
+            max: 0,
+        }
+    }
+
+    // The range of a field of n bytes: the values that its bytes, read back, give again.
+    pub fn from_byte_size(n_bytes: ByteWidth, sign: Sign) -> AllowedRange
+        ensures { λ r. ⌜ r ≡ rangeFrom (byteRange (widthOf «n_bytes») (signOf sign)) ⌝ }
+        ensures { λ r. ⌜ Keeps (widthOf «n_bytes») (signOf sign) (rangeOf r) ⌝ }
+    {
+        match sign {
+            Sign::Unsigned => match n_bytes {
+                ByteWidth::One => AllowedRange::new(0, 0x100),
+                ByteWidth::Two => AllowedRange::new(0, 0x1_0000),
+                ByteWidth::Four => AllowedRange::new(0, 0x1_0000_0000),
+                ByteWidth::Eight => AllowedRange::no_check(),
+            },
+            Sign::Signed => match n_bytes {
+                ByteWidth::One => AllowedRange::new(-0x80, 0x80),
+                ByteWidth::Two => AllowedRange::new(-0x8000, 0x8000),
+                ByteWidth::Four => AllowedRange::new(-0x8000_0000, 0x8000_0000),
+                ByteWidth::Eight => AllowedRange::no_check(),
+            },
+        }
+    }
+
+    // Return true if the value is present in the allowed range.
+    pub fn contains(self, value: i64) -> bool
+        ensures { λ r. ⌜ r ≡ contains (rangeOf self) value ⌝ }
+    {
+        !self.checked | ((self.min <= value) & (value < self.max))
+    }
+}
+
+// The Rust's `value as i64` of a u64.
+pub fn as_i64(value: u64) -> i64
+    ensures { λ r. ⌜ r ≡ signed64 value ⌝ }
+{
+    if value < 0x8000_0000_0000_0000 {
+        value as i64
+    } else {
+        !((!value) as i64)
+    }
+}
+
+pub struct RelocationKindInfo {
+    pub kind: RelocationKind,
+    pub size: RelocationSize,
+    // Whether there is a page mask: never on x86-64.
+    pub mask: bool,
+    pub range: AllowedRange,
+    pub alignment: u8,
+    // Whether there is a bias: never on x86-64.
+    pub bias: bool,
+    pub thunkable: bool,
+    pub implicit_addend: bool,
+}
+
+// relaxation.rs
+pub enum RelocationModifier {
+    Normal,
+    SkipNextRelocation,
+}

@@ -1,0 +1,3 @@
+pub mod Psabi
+pub mod Widths
+pub mod Records

@@ -1,0 +1,20 @@
+-- Document 01's worked records hold of the definitions: antt computes each. Assumes nothing.
+use mathlib.Core.Path.{refl}
+use Rattle.rules.specs.Range.{byteRange, signed64}
+use Rattle.rules.specs.Types.{earlierTypes, laterTypes, lookup}
+use Rattle.rules.specs.Plt.{template, displacement, inReach, pltAnswer, pltBytes}
+use Rattle.rules.specs.Records.{Worked}
+
+pub worked : Worked
+unfolding byteRange signed64 earlierTypes laterTypes lookup template displacement inReach pltAnswer pltBytes
+worked =
+    record {
+      known = refl;
+      signed32 = refl;
+      unsigned32 = refl;
+      lookups = refl;
+      plt = refl;
+      plt-fits = refl;
+      plt-one-more = refl;
+      plt-blank = refl;
+    }

@@ -1,0 +1,35 @@
+-- Document 01's worked records of the lookup and the PLT (★ proved), and its numbers in figures. Assumes nothing.
+use mathlib.Core.Path.{_≡_}
+use mathlib.Core.List.{List, [], _∷_, map}
+use Prim.Native.Nat.{ℕ, _+_}
+use lib.IntN.{pos, negsuc}
+use lib.ListN.{length, replicate}
+use lib.Seq.{sets}
+use Rattle.rules.specs.Answer.{Answer, gives, refuses}
+use Rattle.rules.specs.Range.{Range, within, unchecked}
+use Rattle.rules.specs.Types.{Row, types, lookup}
+use Rattle.rules.specs.Plt.{template, pltAnswer, pltBytes}
+
+abbrev pub rangeAt : ℕ → Answer Range
+rangeAt t = only (lookup t) where
+  only : Answer Row → Answer Range
+  only (gives r) = gives (r .range)
+  only (refuses n) = refuses n
+
+-- any 16 bytes
+abbrev pub buffer : List ℕ
+buffer = replicate 16 0xa5
+
+pub record Worked : Type 0 where
+  -- "knows 39 types"
+  pub known : length types ≡ 39
+  -- "types 2, 11 and 23 have −2,147,483,648 ≤ v < 2,147,483,648, type 10 has 0 ≤ v < 4,294,967,296"
+  pub signed32 : map rangeAt (2 ∷ 11 ∷ 23 ∷ []) ≡ replicate 3 (gives (within (negsuc 2147483647) (pos 2147483648)))
+  pub unsigned32 : rangeAt 10 ≡ gives (within (pos 0) (pos 4294967296))
+  -- "Lookup 27 answers; 28 and 52: 7"
+  pub lookups : map rangeAt (27 ∷ 28 ∷ 52 ∷ []) ≡ gives unchecked ∷ refuses 7 ∷ refuses 7 ∷ []
+  -- ★ "GOT 0x404000, PLT 0x401020: bytes D6 2F 00 00. Difference 2,147,483,647 fits, one more: 9"
+  pub plt : pltBytes buffer 0x404000 0x401020 ≡ sets template 6 (0xd6 ∷ 0x2f ∷ 0x00 ∷ 0x00 ∷ [])
+  pub plt-fits : pltAnswer buffer (0x401020 + 10 + 2147483647) 0x401020 ≡ gives tt
+  pub plt-one-more : pltAnswer buffer (0x401020 + 10 + 2147483648) 0x401020 ≡ refuses 9
+  pub plt-blank : pltBytes buffer (0x401020 + 10 + 2147483648) 0x401020 ≡ template

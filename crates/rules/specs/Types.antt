@@ -1,0 +1,145 @@
+-- Document 01, 'Below: types': the 39 relocation types that `relocation_from_raw` knows, and the dynamic types. Assumes nothing.
+use mathlib.Core.Bool.{Bool, false, cond}
+use mathlib.Core.List.{List, [], _∷_, _++_}
+use Prim.Native.Nat.{ℕ, _^_}
+use lib.Dec.{eqb}
+use lib.ListN.{getD}
+use lib.IntN.{pos}
+use Rattle.rules.specs.Answer.{Answer, gives, refuses}
+use Rattle.rules.specs.Range.{Range, within, unchecked, signed, unsigned, minus, byteRange}
+
+-- what the field is to hold: the kinds of `RelocationKind` that x86-64 uses, in the Rust's order among these sixteen
+pub data Kind : Type 0 where
+  Absolute : Kind
+  SymbolSize : Kind
+  Relative : Kind
+  SymRelGotBase : Kind
+  GotRelGotBase : Kind
+  PltRelGotBase : Kind
+  PltRelative : Kind
+  GotRelative : Kind
+  TlsGd : Kind
+  TlsLd : Kind
+  DtpOff : Kind
+  GotTpOff : Kind
+  TpOff : Kind
+  TlsDesc : Kind
+  TlsDescCall : Kind
+  None : Kind
+
+-- a kind's place in that order, from 0: its number in the interface
+abbrev pub kindNumber : Kind → ℕ
+kindNumber Absolute = 0
+kindNumber SymbolSize = 1
+kindNumber Relative = 2
+kindNumber SymRelGotBase = 3
+kindNumber GotRelGotBase = 4
+kindNumber PltRelGotBase = 5
+kindNumber PltRelative = 6
+kindNumber GotRelative = 7
+kindNumber TlsGd = 8
+kindNumber TlsLd = 9
+kindNumber DtpOff = 10
+kindNumber GotTpOff = 11
+kindNumber TpOff = 12
+kindNumber TlsDesc = 13
+kindNumber TlsDescCall = 14
+kindNumber None = 15
+
+-- a row of the lookup; past the range it is the same in every row
+pub record Row : Type 0 where
+  pub kind : Kind
+  pub size : ℕ
+  pub range : Range
+  pub mask : Bool
+  pub alignment : ℕ
+  pub bias : Bool
+  pub thunkable : Bool
+  pub implicit-addend : Bool
+
+abbrev pub row : Kind → ℕ → Range → Row
+row k n r =
+    record { kind = k; size = n; range = r; mask = false; alignment = 1; bias = false; thunkable = false; implicit-addend = false }
+
+-- a field of n bytes with the range of its width, signed or unsigned
+abbrev pub field : ℕ → Kind → Row
+field n k = row k n (byteRange n signed)
+
+abbrev pub ufield : ℕ → Kind → Row
+ufield n k = row k n (byteRange n unsigned)
+
+pub record Entry : Type 0 where
+  pub type : ℕ
+  pub info : Row
+
+infix 20 _⇒_
+abbrev pub _⇒_ : ℕ → Row → Entry
+t ⇒ r = record { type = t; info = r }
+
+-- "knows 39 types: 0–4, 9–15, 17, 19–27, 29, 31–35, 41–51"
+unfoldable pub earlierTypes : List Entry
+earlierTypes =
+    (0 ⇒ field 0 None)
+    ∷ (1 ⇒ ufield 8 Absolute)
+    ∷ (2 ⇒ field 4 Relative)
+    ∷ (3 ⇒ ufield 4 GotRelGotBase)
+    ∷ (4 ⇒ field 4 PltRelative)
+    ∷ (9 ⇒ field 4 GotRelative)
+    ∷ (10 ⇒ ufield 4 Absolute)
+    ∷ (11 ⇒ field 4 Absolute)
+    ∷ (12 ⇒ row Absolute 2 (within (minus (2 ^ 15)) (pos (2 ^ 16))))
+    ∷ (13 ⇒ field 2 Relative)
+    ∷ (14 ⇒ row Absolute 1 (within (minus (2 ^ 7)) (pos (2 ^ 8))))
+    ∷ (15 ⇒ field 1 Relative)
+    ∷ (17 ⇒ field 8 DtpOff)
+    ∷ (19 ⇒ field 4 TlsGd)
+    ∷ (20 ⇒ field 4 TlsLd)
+    ∷ (21 ⇒ field 4 DtpOff)
+    ∷ (22 ⇒ field 4 GotTpOff)
+    ∷ (23 ⇒ field 4 TpOff)
+    ∷ (24 ⇒ field 8 Relative)
+    ∷ (25 ⇒ field 8 SymRelGotBase)
+    ∷ (26 ⇒ field 4 Relative)
+    ∷ (27 ⇒ ufield 8 GotRelGotBase)
+    ∷ (29 ⇒ field 8 Relative)
+    ∷ (31 ⇒ field 8 PltRelGotBase)
+    ∷ (32 ⇒ ufield 4 SymbolSize)
+    ∷ (33 ⇒ ufield 8 SymbolSize)
+    ∷ (34 ⇒ field 4 TlsDesc)
+    ∷ (35 ⇒ field 0 TlsDescCall)
+    ∷ []
+
+unfoldable pub laterTypes : List Entry
+laterTypes =
+    (41 ⇒ field 4 GotRelative)
+    ∷ (42 ⇒ field 4 GotRelative)
+    ∷ (43 ⇒ field 4 GotRelative)
+    ∷ (44 ⇒ field 4 GotTpOff)
+    ∷ (45 ⇒ field 4 TlsDesc)
+    ∷ (46 ⇒ field 4 GotRelative)
+    ∷ (47 ⇒ field 4 GotTpOff)
+    ∷ (48 ⇒ field 4 TlsDesc)
+    ∷ (49 ⇒ field 4 GotRelative)
+    ∷ (50 ⇒ field 4 GotTpOff)
+    ∷ (51 ⇒ field 4 TlsDesc)
+    ∷ []
+
+abbrev pub types : List Entry
+types = earlierTypes ++ laterTypes
+
+-- the row of a number, or refusal 7: "type not among the 39 (lookup only)"
+abbrev pub find : List Entry → ℕ → Answer Row
+find [] t = refuses 7
+find (e ∷ es) t = cond (eqb t (e .type)) (gives (e .info)) (find es t)
+
+unfoldable pub lookup : ℕ → Answer Row
+lookup t = find types t
+
+-- "Dynamic types as in `x86_64_r_type`", in the order of `DynamicRelocationKind`:
+-- Copy, Irelative, DtpMod, DtpOff, TlsDesc, TpOff, Relative, Absolute, GotEntry, JumpSlot
+abbrev pub dynamicTypes : List ℕ
+dynamicTypes = 5 ∷ 37 ∷ 16 ∷ 17 ∷ 36 ∷ 18 ∷ 8 ∷ 1 ∷ 6 ∷ 7 ∷ []
+
+-- the dynamic type of a kind's number from 0, or type 0 (none) where there is no such kind
+abbrev pub dynamicType : ℕ → ℕ
+dynamicType k = getD dynamicTypes k 0

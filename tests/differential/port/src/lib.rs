@@ -1,0 +1,77 @@
+//! The port's exported interface. Nothing checks these declarations against the Rattle source.
+
+#[derive(Debug, Default, Clone, Copy, PartialEq, Eq)]
+#[repr(C)]
+pub struct OutputKindAnswer {
+    pub refusal: u8,
+    pub is_executable: bool,
+    pub is_static_executable: bool,
+    pub is_position_independent: bool,
+    pub has_fixed_load_address: bool,
+}
+
+#[derive(Debug, Default, Clone, Copy, PartialEq, Eq)]
+#[repr(C)]
+pub struct ValueFlagsAnswer {
+    pub refusal: u8,
+    pub is_dynamic: bool,
+    pub is_ifunc: bool,
+    pub has_link_time_address: bool,
+    pub is_absolute: bool,
+    pub is_interposable: bool,
+}
+
+#[derive(Debug, Default, Clone, Copy, PartialEq, Eq)]
+#[repr(C)]
+pub struct RelocationAnswer {
+    pub refusal: u8,
+    pub kind: u8,
+    pub size: u8,
+    pub checked: bool,
+    pub mask: bool,
+    pub bias: bool,
+    pub thunkable: bool,
+    pub implicit_addend: bool,
+    pub alignment: u8,
+    pub min: i64,
+    pub max: i64,
+}
+
+// Not bundled: the library is needed only where one of these functions is called.
+#[link(name = "jitamoro", kind = "static", modifiers = "-bundle")]
+unsafe extern "C" {
+    pub safe fn jitamoro_output_kind(number: u8) -> OutputKindAnswer;
+    pub safe fn jitamoro_value_flags(number: u8) -> ValueFlagsAnswer;
+    pub safe fn jitamoro_relocation_from_raw(r_type: u32) -> RelocationAnswer;
+    pub safe fn jitamoro_allowed_range_contains(
+        checked: bool,
+        min: i64,
+        max: i64,
+        value: i64,
+    ) -> bool;
+    pub safe fn jitamoro_x86_64_r_type(kind: u32) -> u32;
+
+    /// # Safety
+    /// `plt_entry` is valid for reads and writes of `len` bytes.
+    pub fn jitamoro_write_plt_entry(
+        plt_entry: *mut u8,
+        len: usize,
+        got_address: u64,
+        plt_address: u64,
+    ) -> u8;
+
+    /// # Safety
+    /// `buf` is valid for reads and writes of `len` bytes.
+    pub fn jitamoro_fill_section_padding(buf: *mut u8, len: usize, executable: bool);
+}
+
+pub fn write_plt_entry(plt_entry: &mut [u8], got_address: u64, plt_address: u64) -> u8 {
+    let (start, len) = (plt_entry.as_mut_ptr(), plt_entry.len());
+    // SAFETY: a slice lent by its pointer and length.
+    unsafe { jitamoro_write_plt_entry(start, len, got_address, plt_address) }
+}
+
+pub fn fill_section_padding(buf: &mut [u8], executable: bool) {
+    // SAFETY: a slice lent by its pointer and length.
+    unsafe { jitamoro_fill_section_padding(buf.as_mut_ptr(), buf.len(), executable) }
+}
