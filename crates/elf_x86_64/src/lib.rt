@@ -82,7 +82,48 @@ pub fn fill_nop_padding(buf: &mut [u8])
     fill(buf, 0xcc);
 }
 
+// The Rust's `buf.fill(byte)`. Up to 64 bytes go by two runs of stores, which may overlap: most
+// padding is short, and a call of memset costs more than that.
 fn fill(buf: &mut [u8], byte: u8)
+    ensures { λ _. ⌜ now (buf .exit) ≡ replicate (length (now (buf .entry))) byte ⌝ }
+{
+    let n = buf.len();
+    if n <= 16 {
+        fill_short(buf, byte);
+    } else if n <= 32 {
+        put16(buf, 0, byte);
+        put16(buf, n - 16, byte);
+    } else if n <= 64 {
+        put32(buf, 0, byte);
+        put32(buf, n - 32, byte);
+    } else {
+        fill_long(buf, byte);
+    }
+}
+
+fn fill_short(buf: &mut [u8], byte: u8)
+    requires { ⌜ length (now buf) ≤ 16 ⌝ }
+    ensures { λ _. ⌜ now (buf .exit) ≡ replicate (length (now (buf .entry))) byte ⌝ }
+{
+    let n = buf.len();
+    if n == 0 {
+        return;
+    }
+    if n == 1 {
+        buf[0] = byte;
+    } else if n <= 4 {
+        put2(buf, 0, byte);
+        put2(buf, n - 2, byte);
+    } else if n <= 8 {
+        put4(buf, 0, byte);
+        put4(buf, n - 4, byte);
+    } else {
+        put8(buf, 0, byte);
+        put8(buf, n - 8, byte);
+    }
+}
+
+fn fill_long(buf: &mut [u8], byte: u8)
     ensures { λ _. ⌜ now (buf .exit) ≡ replicate (length (now (buf .entry))) byte ⌝ }
 {
     let mut i = 0;
@@ -90,4 +131,45 @@ fn fill(buf: &mut [u8], byte: u8)
         buf[i] = byte;
         i += 1;
     }
+}
+
+// A byte stored from `at` on, 2, 4, 8, 16 or 32 times.
+fn put2(buf: &mut [u8], at: usize, byte: u8)
+    requires { ⌜ at + 2 ≤ length (now buf) ⌝ }
+    ensures { λ _. ⌜ now (buf .exit) ≡ sets (now (buf .entry)) at (replicate 2 byte) ⌝ }
+{
+    buf[at] = byte;
+    buf[at + 1] = byte;
+}
+
+fn put4(buf: &mut [u8], at: usize, byte: u8)
+    requires { ⌜ at + 4 ≤ length (now buf) ⌝ }
+    ensures { λ _. ⌜ now (buf .exit) ≡ sets (now (buf .entry)) at (replicate 4 byte) ⌝ }
+{
+    put2(buf, at, byte);
+    put2(buf, at + 2, byte);
+}
+
+fn put8(buf: &mut [u8], at: usize, byte: u8)
+    requires { ⌜ at + 8 ≤ length (now buf) ⌝ }
+    ensures { λ _. ⌜ now (buf .exit) ≡ sets (now (buf .entry)) at (replicate 8 byte) ⌝ }
+{
+    put4(buf, at, byte);
+    put4(buf, at + 4, byte);
+}
+
+fn put16(buf: &mut [u8], at: usize, byte: u8)
+    requires { ⌜ at + 16 ≤ length (now buf) ⌝ }
+    ensures { λ _. ⌜ now (buf .exit) ≡ sets (now (buf .entry)) at (replicate 16 byte) ⌝ }
+{
+    put8(buf, at, byte);
+    put8(buf, at + 8, byte);
+}
+
+fn put32(buf: &mut [u8], at: usize, byte: u8)
+    requires { ⌜ at + 32 ≤ length (now buf) ⌝ }
+    ensures { λ _. ⌜ now (buf .exit) ≡ sets (now (buf .entry)) at (replicate 32 byte) ⌝ }
+{
+    put16(buf, at, byte);
+    put16(buf, at + 16, byte);
 }

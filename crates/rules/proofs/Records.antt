@@ -17,4 +17,5 @@ worked =
       plt-fits = refl;
       plt-one-more = refl;
       plt-blank = refl;
+      plt-short = refl;
     }

@@ -36,8 +36,7 @@ pltAnswer buffer got plt = cond (eqb (length buffer) 16) (cond (inReach got plt)
 unfoldable pub pltBytes : List ℕ → ℕ → ℕ → List ℕ
 pltBytes buffer got plt =
     cond (eqb (length buffer) 16)
-    (cond (inReach got plt) (sets template 6 (lowFirst (displacement got plt))) template)
-    buffer
+    (cond (inReach got plt) (sets template 6 (lowFirst (displacement got plt))) template) buffer
 
 -- "Padding is CC in executable sections, 00 elsewhere"
 unfoldable pub padding : Bool → ℕ → List ℕ

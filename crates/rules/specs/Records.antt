@@ -33,3 +33,5 @@ pub record Worked : Type 0 where
   pub plt-fits : pltAnswer buffer (0x401020 + 10 + 2147483647) 0x401020 ≡ gives tt
   pub plt-one-more : pltAnswer buffer (0x401020 + 10 + 2147483648) 0x401020 ≡ refuses 9
   pub plt-blank : pltBytes buffer (0x401020 + 10 + 2147483648) 0x401020 ≡ template
+  -- "8 changes nothing"
+  pub plt-short : pltBytes (replicate 15 0xa5) 0x404000 0x401020 ≡ replicate 15 0xa5
