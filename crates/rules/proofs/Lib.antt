@@ -1,3 +1,9 @@
 pub mod Psabi
 pub mod Widths
 pub mod Records
+pub mod Runs
+pub mod Arith
+pub mod Forms
+pub mod Places
+pub mod Theorem
+pub mod Instances

@@ -3,7 +3,10 @@ use mathlib.Core.Path.{refl}
 use Rattle.rules.specs.Range.{byteRange, signed64}
 use Rattle.rules.specs.Types.{earlierTypes, laterTypes, lookup}
 use Rattle.rules.specs.Plt.{template, displacement, inReach, pltAnswer, pltBytes}
+use Rattle.rules.specs.Choose.{given, pick, inRange, rexGotpcrelx, gotpcrelx, gotpcrel, gottpoff, code6Gottpoff, tlsgd, tlsld, tlsdesc, choose, choosing}
+use Rattle.rules.specs.Rewrite.{rexMoved, rex2Moved, rexCopied, evexMoved, relaxChosen, relaxing}
 use Rattle.rules.specs.Records.{Worked}
+use Rattle.rules.specs.Starred.{StarredHold}
 
 pub worked : Worked
 unfolding byteRange signed64 earlierTypes laterTypes lookup template displacement inReach pltAnswer pltBytes
@@ -19,3 +22,7 @@ worked =
       plt-blank = refl;
       plt-short = refl;
     }
+
+pub starred-hold : StarredHold
+unfolding byteRange signed64 earlierTypes laterTypes lookup given pick inRange rexGotpcrelx gotpcrelx gotpcrel gottpoff code6Gottpoff tlsgd tlsld tlsdesc choose choosing rexMoved rex2Moved rexCopied evexMoved relaxChosen relaxing
+starred-hold = record { hold = refl }

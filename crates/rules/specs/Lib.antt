@@ -2,6 +2,14 @@ pub mod Answer
 pub mod Record
 pub mod Range
 pub mod Types
-pub mod Psabi
+pub mod Kinds
+pub mod Choose
+pub mod Rewrite
+pub mod Machine
+pub mod Meaning
 pub mod Plt
+pub mod Psabi
 pub mod Records
+pub mod Starred
+pub mod Runs
+pub mod Instances

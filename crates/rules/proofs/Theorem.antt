@@ -1,0 +1,216 @@
+-- The theorem. The choice is walked forward, by the tests that the rules make (`by-given`, `by-pick`), to each kind that they can choose;
+-- there the kind's law closes it. Relaxing, and choosing and then rewriting, give that section.
+-- Assumes nothing.
+use mathlib.Core.Path.{_≡_, refl, sym, subst, ap}
+use mathlib.Core.Logic.{inl, inr}
+use mathlib.Core.Bool.{Bool, true, false, not, _&&_, _||_, cond}
+use mathlib.Core.List.{List, [], _∷_}
+use Prim.Native.Nat.{ℕ, _+_, _-_, _≤_}
+use native.Mathlib.Omega.{arith}
+use lib.Dec.{T, leb, ltb, eqb, eqb→eq}
+use lib.ListN.{length, getD}
+use lib.IntN.{ℤ, negsuc}
+use Rattle.rules.specs.Answer.{Answer, gives, refuses}
+use Rattle.rules.specs.Record.{ifunc}
+use Rattle.rules.specs.Kinds.{RelaxationKind, allowed, fits}
+use Rattle.rules.specs.Choose.{Choice, none, chosen, given, pick, isRexW, rexGotpcrelx, gotpcrelx, gotpcrel, gottpoff, choose, choosing}
+use Rattle.rules.specs.Rewrite.{Rewritten, Relaxed, unrelaxed, relaxed, rewrite, rewriting, relaxChosen, relaxing}
+use Rattle.rules.specs.Meaning.{covered, Instruction, EndsAlike, SameMeaning}
+use Rattle.rules.proofs.Arith.{and-right}
+use Rattle.rules.proofs.Forms.{In}
+use Rattle.rules.proofs.Places.{ops, abs2, abs3, abs4, lea-at-2, lea-at-3, lea-at-4, call-at, jmp-at}
+
+-- what a choice means, as a record, so that the choice can be read off its type
+abbrev Means : ℕ → List ℕ → ℕ → Choice → Type 0
+Means type sec off none = Unit {0}
+Means type sec off (chosen k t m) = EndsAlike type sec off t (rewrite k sec off (negsuc 3))
+
+record Sound (type : ℕ) (sec : List ℕ) (off : ℕ) (c : Choice) : Type 0 where
+  means : Means type sec off c
+
+nothing : {type : ℕ} {sec : List ℕ} {off : ℕ} → Sound type sec off none
+nothing = record { means = tt }
+
+module _ {type : ℕ} {sec : List ℕ} {off : ℕ} where
+  by-given : (c : Bool) {x : Choice} → (T c → Sound type sec off x) → Sound type sec off (given c x)
+  unfolding given
+  by-given true f = f tt
+  by-given false f = record { means = tt }
+
+  by-pick : (c : Bool) {x y : Choice} → (T c → Sound type sec off x) → Sound type sec off y → Sound type sec off (pick c x y)
+  unfolding pick
+  by-pick true f m = f tt
+  by-pick false f m = m
+
+-- the operations to an absolute field, by their places in the table
+mov-11 : In 0 ops
+mov-11 = inl refl
+
+sub-11 : In 1 ops
+sub-11 = inr (inl refl)
+
+cmp-11 : In 2 ops
+cmp-11 = inr (inr (inl refl))
+
+mov-23 : In 3 ops
+mov-23 = inr (inr (inr (inl refl)))
+
+add-23 : In 4 ops
+add-23 = inr (inr (inr (inr (inl refl))))
+
+module _ (sec : List ℕ) (off flags kind address : ℕ) where
+  -- the prefix test that the choice makes
+  pre : T (leb 3 off && isRexW (getD sec (off - 3) 0)) → T (isRexW (getD sec (off - 3) 0))
+  pre g = and-right (leb 3 off) (isRexW (getD sec (off - 3) 0)) g
+
+  rex3 : Instruction 42 sec off → Sound 42 sec off (rexGotpcrelx sec off flags kind address (negsuc 3) 3)
+  unfolding rexGotpcrelx
+  rex3 i =
+      by-given _ λ g. by-given _ λ _. by-pick _
+      (λ _. by-given _ λ _.
+      by-pick _ (λ o. record { means = λ base s new c. abs3 sec new off base s (i .whole) 0 mov-11 (eqb→eq _ _ o) (pre g) (i .rip) (i .low) c })
+      (by-pick _ (λ o. record { means = λ base s new c. abs3 sec new off base s (i .whole) 1 sub-11 (eqb→eq _ _ o) (pre g) (i .rip) (i .low) c })
+      (by-given _ λ o. record { means = λ base s new c. abs3 sec new off base s (i .whole) 2 cmp-11 (eqb→eq _ _ o) (pre g) (i .rip) (i .low) c })))
+      (by-given _ λ o. record { means = λ base s new c. lea-at-3 sec new off base s (i .whole) (i .low) (pre g) (eqb→eq _ _ o) (i .rip) c })
+
+  rex4 : Instruction 43 sec off → Sound 43 sec off (rexGotpcrelx sec off flags kind address (negsuc 3) 4)
+  unfolding rexGotpcrelx
+  rex4 i =
+      by-given _ λ g. by-given _ λ _. by-pick _
+      (λ _. by-given _ λ _.
+      by-pick _ (λ o. record { means = λ base s new c. abs4 sec new off base s (i .whole) 0 mov-11 (eqb→eq _ _ o) (pre g) (i .rip) (i .low) (eqb→eq _ _ (i .first)) c })
+      (by-pick _ (λ o. record { means = λ base s new c. abs4 sec new off base s (i .whole) 1 sub-11 (eqb→eq _ _ o) (pre g) (i .rip) (i .low) (eqb→eq _ _ (i .first)) c })
+      (by-given _ λ o. record { means = λ base s new c. abs4 sec new off base s (i .whole) 2 cmp-11 (eqb→eq _ _ o) (pre g) (i .rip) (i .low) (eqb→eq _ _ (i .first)) c })))
+      (by-given _ λ o. record { means = λ base s new c. lea-at-4 sec new off base s (i .whole) (i .low) (eqb→eq _ _ (i .first)) (pre g) (eqb→eq _ _ o) (i .rip) c })
+
+  thread3 : Instruction 22 sec off → Sound 22 sec off (gottpoff sec off flags kind address (negsuc 3) 3)
+  unfolding gottpoff
+  thread3 i =
+      by-given _ λ _. by-given _ λ g.
+      by-pick _ (λ o. record { means = λ base s new c. abs3 sec new off base s (i .whole) 3 mov-23 (eqb→eq _ _ o) (pre g) (i .rip) (i .low) c })
+      (by-given _ λ o. record { means = λ base s new c. abs3 sec new off base s (i .whole) 4 add-23 (eqb→eq _ _ o) (pre g) (i .rip) (i .low) c })
+
+  thread4 : Instruction 44 sec off → Sound 44 sec off (gottpoff sec off flags kind address (negsuc 3) 4)
+  unfolding gottpoff
+  thread4 i =
+      by-given _ λ _. by-given _ λ g.
+      by-pick _ (λ o. record { means = λ base s new c. abs4 sec new off base s (i .whole) 3 mov-23 (eqb→eq _ _ o) (pre g) (i .rip) (i .low) (eqb→eq _ _ (i .first)) c })
+      (by-given _ λ o. record { means = λ base s new c. abs4 sec new off base s (i .whole) 4 add-23 (eqb→eq _ _ o) (pre g) (i .rip) (i .low) (eqb→eq _ _ (i .first)) c })
+
+  nine : Instruction 9 sec off → Sound 9 sec off (gotpcrel sec off flags kind address (negsuc 3))
+  unfolding gotpcrel
+  nine i =
+      by-given _ λ _. by-given _ λ g.
+      by-given _ λ o. record { means = λ base s new c. lea-at-3 sec new off base s (i .whole) (i .low) (pre g) (eqb→eq _ _ o) (i .rip) c }
+
+  plain : Instruction 41 sec off → Sound 41 sec off (gotpcrelx sec off flags kind address (negsuc 3))
+  unfolding gotpcrelx
+  plain i =
+      by-given _ λ _. by-pick _
+      (λ o. by-pick _
+      (λ _. by-given _ λ _. record { means = λ base s new c. abs2 sec new off base s (i .whole) (i .low) (eqb→eq _ _ o) (i .rip) c })
+      (record { means = λ base s new c. lea-at-2 sec new off base s (i .whole) (i .low) (eqb→eq _ _ o) (i .rip) c }))
+      (by-given _ λ o. by-pick _
+      (λ m. record { means = λ base s new c. call-at sec new off base s (i .whole) (i .low) (eqb→eq _ _ o) (eqb→eq _ _ m) c })
+      (by-given _ λ m. record { means = λ base s new c. jmp-at sec new off base s (i .whole) (i .low) (eqb→eq _ _ o) (eqb→eq _ _ m) c }))
+
+-- ---- by the type
+
+either : {P : Type 0} (a b : Bool) → (T a → P) → (T b → P) → T (a || b) → P
+either true b f g t = f tt
+either false b f g t = g t
+
+is : (P : ℕ → Type 0) (n m : ℕ) → P m → T (eqb n m) → P n
+is P n m p t = subst P (sym (eqb→eq n m t)) p
+
+by-type : (P : ℕ → Type 0) → P 9 → P 22 → P 41 → P 42 → P 43 → P 44 → (n : ℕ) → T (covered n) → P n
+by-type P a b c d e f n =
+    either (eqb n 9 || eqb n 22 || eqb n 41 || eqb n 42 || eqb n 43) (eqb n 44)
+    (either (eqb n 9 || eqb n 22 || eqb n 41 || eqb n 42) (eqb n 43)
+    (either (eqb n 9 || eqb n 22 || eqb n 41) (eqb n 42)
+    (either (eqb n 9 || eqb n 22) (eqb n 41)
+    (either (eqb n 9) (eqb n 22) (is P n 9 a) (is P n 22 b))
+    (is P n 41 c)) (is P n 42 d)) (is P n 43 e)) (is P n 44 f)
+
+module _ (sec : List ℕ) (off flags kind address : ℕ) (executable : Bool) where
+  abbrev Claim : ℕ → Type 0
+  Claim type = Instruction type sec off → Sound type sec off (choose sec off flags kind address (negsuc 3) type executable)
+
+  guarded : {type : ℕ} {c : Choice} → Sound type sec off c → Sound type sec off (pick (ifunc flags) none (given executable c))
+  guarded x = by-pick (ifunc flags) (λ _. nothing) (by-given executable λ _. x)
+
+  sound : (type : ℕ) → T (covered type) → Claim type
+  unfolding choose pick given
+  sound =
+      by-type Claim
+      (λ i. guarded (nine sec off flags kind address i))
+      (λ i. guarded (thread3 sec off flags kind address i))
+      (λ i. guarded (plain sec off flags kind address i))
+      (λ i. guarded (rex3 sec off flags kind address i))
+      (λ i. guarded (rex4 sec off flags kind address i))
+      (λ i. guarded (thread4 sec off flags kind address i))
+
+-- ---- from relaxing, and from choosing and rewriting, to the choice and the rewritten section
+
+never : {A : Type 0} → _≡_ {A = ℕ} 0 1 → A
+never z = absurd (omega arith)
+
+-- what stands behind a row of refusals, each with its test
+behind : {A : Type 0} (c : Bool) (n : ℕ) (x : Answer A) (a : A) → cond c (refuses n) x ≡ gives a → x ≡ gives a
+behind true n x a e = never (cc)
+behind false n x a e = e
+
+module _ (sec : List ℕ) (off : ℕ) (a : ℤ) (k : RelaxationKind) (t : ℕ) (m : Bool) (r : Rewritten) where
+  record Parts (x : Answer Choice) : Type 0 where
+    choice : x ≡ gives (chosen k t m)
+    result : rewrite k sec off a ≡ r
+
+  fitting : (c : Bool) (k′ : RelaxationKind) (t′ : ℕ) (m′ : Bool) → cond c (gives (relaxed k′ t′ m′ (rewrite k′ sec off a))) (refuses 6) ≡ gives (relaxed k t m r) → Parts (gives (chosen k′ t′ m′))
+  fitting true k′ t′ m′ e =
+      let p : k′ ≡ k = cc in
+      let q : rewrite k′ sec off a ≡ r = cc in
+      record { choice = cc; result = subst (λ (j : RelaxationKind). rewrite j sec off a ≡ r) p q }
+  fitting false k′ t′ m′ e = never (cc)
+
+  taken : (x : Answer Choice) → relaxChosen sec off a x ≡ gives (relaxed k t m r) → Parts x
+  unfolding relaxChosen
+  taken (refuses n) e = never (cc)
+  taken (gives none) e = never (cc)
+  taken (gives (chosen k′ t′ m′)) e = fitting (fits k′ (length sec) off) k′ t′ m′ e
+
+  ifFits : (c : Bool) → cond c (gives (rewrite k sec off a)) (refuses 6) ≡ gives r → rewrite k sec off a ≡ r
+  ifFits true e = cc
+  ifFits false e = never (cc)
+
+  ifAllowed : (c : Bool) → cond c (cond (fits k (length sec) off) (gives (rewrite k sec off a)) (refuses 6)) (refuses 5) ≡ gives r → rewrite k sec off a ≡ r
+  ifAllowed true e = ifFits (fits k (length sec) off) e
+  ifAllowed false e = never (cc)
+
+  done : rewriting k sec off a ≡ gives r → rewrite k sec off a ≡ r
+  unfolding rewriting
+  done e = ifAllowed (allowed k) (behind (ltb (length sec) off) 2 _ r (behind (ltb 268435456 (length sec)) 1 _ r e))
+
+chose : (sec : List ℕ) (off flags kind address : ℕ) (a : ℤ) (type : ℕ) (executable : Bool) (c : Choice) → choosing sec off flags kind address a type executable ≡ gives c → choose sec off flags kind address a type executable ≡ c
+unfolding choosing
+chose sec off flags kind address a type executable c e =
+    let p : gives (choose sec off flags kind address a type executable) ≡ gives c = behind (ltb 5 kind) 4 _ c (behind (ltb 15 flags) 3 _ c (behind (ltb (length sec) off) 2 _ c (behind (ltb 268435456 (length sec)) 1 _ c e))) in
+    cc
+
+means : (type : ℕ) (sec : List ℕ) (off flags kind address : ℕ) (executable : Bool) → T (covered type) → Instruction type sec off
+    → (k : RelaxationKind) (t : ℕ) (m : Bool) (r : Rewritten) → choosing sec off flags kind address (negsuc 3) type executable ≡ gives (chosen k t m)
+    → rewrite k sec off (negsuc 3) ≡ r → EndsAlike type sec off t r
+means type sec off flags kind address executable h i k t m r e q =
+    subst (EndsAlike type sec off t) q
+    (subst (Means type sec off) (chose sec off flags kind address (negsuc 3) type executable (chosen k t m) e)
+    (sound sec off flags kind address executable type h i .means))
+
+pub same-meaning : SameMeaning
+unfolding relaxing
+same-meaning =
+    record {
+      relaxes = λ type sec off flags kind address executable h i k t m r e.
+          let p = taken sec off (negsuc 3) k t m r (choosing sec off flags kind address (negsuc 3) type executable) e in
+          means type sec off flags kind address executable h i k t m r (p .choice) (p .result);
+      rewrites = λ type sec off flags kind address executable h i k t m r e q.
+          means type sec off flags kind address executable h i k t m r e (done sec off (negsuc 3) k t m r q);
+    }

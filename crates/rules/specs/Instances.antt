@@ -1,0 +1,122 @@
+-- Worked instances of the theorem, one for each of the eight kinds that the rules choose for these types, and for REX2: each meets all
+-- premises. Plant two's `4C 8B 2D` is among them, and ends with r13 changed and rbp not. Assumes nothing.
+use mathlib.Core.Path.{_≡_}
+use mathlib.Core.Bool.{Bool, true, false, cond, _&&_}
+use mathlib.Core.List.{List, [], _∷_, map}
+use Prim.Native.Nat.{ℕ, _+_, _-_, _*_, _/_, _%_, _^_}
+use lib.Dec.{leb, ltb}
+use lib.ListN.{length, getD}
+use lib.Seq.{sets}
+use lib.IntN.{negsuc}
+use Rattle.rules.specs.Answer.{Answer, gives, refuses}
+use Rattle.rules.specs.Range.{signed64}
+use Rattle.rules.specs.Kinds.{RelaxationKind, shapeOf}
+use Rattle.rules.specs.Choose.{inRange}
+use Rattle.rules.specs.Rewrite.{Rewritten, Relaxed, unrelaxed, relaxed, relaxing, relocated, Filled}
+use Rattle.rules.specs.Machine.{State, Flags, Result, stop, next, word, signed32, fieldAt, ripRelative, step}
+use Rattle.rules.specs.Meaning.{covered, head, begins, Instruction, slotValue, Alike}
+
+-- type, section, offset, flag number, output kind, symbol address, load address, and the slot's value
+pub record Case : Type 0 where
+  pub type : ℕ
+  pub section : List ℕ
+  pub offset : ℕ
+  pub flags : ℕ
+  pub kind : ℕ
+  pub address : ℕ
+  pub base : ℕ
+  pub value : ℕ
+
+abbrev case : ℕ → List ℕ → ℕ → ℕ → ℕ → ℕ → ℕ → Case
+case t s o f k b v =
+    record { type = t; section = s; offset = o; flags = f; kind = k; address = v; base = b; value = v }
+
+-- the field holds 16, so that the slot lies 16 past the instruction; register k holds 16 * k, and memory the slot's value alone
+abbrev pub stateOf : Case → State
+stateOf c =
+    let at = (c .base + c .offset + 4 + signed32 (fieldAt (c .section) (c .offset))) % word in
+    record {
+      regs = λ k. k * 16;
+      flags = record { cf = true; pf = false; af = true; zf = false; sf = false; of = true };
+      mem = λ a. cond (ltb a at) 0 (c .value / 256 ^ (a - at) % 256);
+    }
+
+abbrev pub relaxingOf : Case → Answer Relaxed
+relaxingOf c = relaxing (c .section) (c .offset) (c .flags) (c .kind) (c .address) (negsuc 3) (c .type) true
+
+-- the number that the field is filled with, and the four stores that fill it
+abbrev pub filling : Case → ℕ → Rewritten → ℕ
+filling c t r = relocated t (slotValue (c .section) (c .offset) (c .base) (stateOf c .mem)) (r .addend) (c .base + r .offset)
+
+abbrev pub fill : ℕ → ℕ → List ℕ → List ℕ
+fill x at sec = sets sec at (x / 256 ^ 0 % 256 ∷ x / 256 ^ 1 % 256 ∷ x / 256 ^ 2 % 256 ∷ x / 256 ^ 3 % 256 ∷ [])
+
+-- the premises, as one test
+abbrev pub fills : Case → Answer Relaxed → Bool
+fills c (refuses n) = false
+fills c (gives unrelaxed) = false
+fills c (gives (relaxed k t m r)) = inRange t (signed64 (filling c t r)) && leb (r .offset + 4) (length (r .bytes))
+
+abbrev pub meets : Case → Bool
+meets c =
+    covered (c .type) && leb (head (c .type)) (c .offset) && leb (c .offset + 4) (length (c .section))
+    && begins (c .type) (getD (c .section) (c .offset - head (c .type)) 0) && ripRelative (getD (c .section) (c .offset - 1) 0)
+    && fills c (relaxingOf c)
+
+-- what a case shows: it meets every premise of the theorem, and the two steps end alike
+pub record Instance (c : Case) : Type 0 where
+  pub instruction : Instruction (c .type) (c .section) (c .offset)
+  pub kind : RelaxationKind
+  pub type : ℕ
+  pub mandatory : Bool
+  pub result : Rewritten
+  pub relaxes : relaxingOf c ≡ gives (relaxed kind type mandatory result)
+  pub new : List ℕ
+  pub filled : Filled type (result .addend) (result .offset) (c .base) (slotValue (c .section) (c .offset) (c .base) (stateOf c .mem)) (result .bytes) new
+  pub alike : Alike (step (c .section) (c .offset - head (c .type)) (c .base) (stateOf c)) (step new (c .offset - head (c .type)) (c .base) (stateOf c))
+
+abbrev pub cases : List Case
+cases =
+    case 42 (0x48 ∷ 0x8B ∷ 0x2D ∷ 16 ∷ 0 ∷ 0 ∷ 0 ∷ []) 3 1 1 0x401000 0x402000
+    ∷ case 41 (0x8B ∷ 0x2D ∷ 16 ∷ 0 ∷ 0 ∷ 0 ∷ []) 2 1 0 0x401000 0x402000
+    ∷ case 42 (0x4C ∷ 0x8B ∷ 0x2D ∷ 16 ∷ 0 ∷ 0 ∷ 0 ∷ []) 3 1 0 0x401000 0x402000
+    ∷ case 22 (0x4C ∷ 0x03 ∷ 0x25 ∷ 16 ∷ 0 ∷ 0 ∷ 0 ∷ []) 3 1 2 0x401000 0xFFFFFFFFFFFFFFF8
+    ∷ case 42 (0x4C ∷ 0x2B ∷ 0x2D ∷ 16 ∷ 0 ∷ 0 ∷ 0 ∷ []) 3 3 0 0x401000 0x402000
+    ∷ case 42 (0x48 ∷ 0x3B ∷ 0x05 ∷ 16 ∷ 0 ∷ 0 ∷ 0 ∷ []) 3 3 0 0x401000 0x402000
+    ∷ case 41 (0xFF ∷ 0x15 ∷ 16 ∷ 0 ∷ 0 ∷ 0 ∷ []) 2 1 1 0x401000 0x402000
+    ∷ case 41 (0xFF ∷ 0x25 ∷ 16 ∷ 0 ∷ 0 ∷ 0 ∷ []) 2 1 1 0x401000 0x402000
+    ∷ case 9 (0x48 ∷ 0x8B ∷ 0x3D ∷ 16 ∷ 0 ∷ 0 ∷ 0 ∷ []) 3 1 1 0x401000 0x402000
+    ∷ case 43 (0xD5 ∷ 0x4C ∷ 0x8B ∷ 0x2D ∷ 16 ∷ 0 ∷ 0 ∷ 0 ∷ []) 4 3 1 0x401000 0x402000
+    ∷ case 44 (0xD5 ∷ 0x48 ∷ 0x03 ∷ 0x05 ∷ 16 ∷ 0 ∷ 0 ∷ 0 ∷ []) 4 1 0 0x401000 0xFFFFFFFFFFFFFFF0
+    ∷ []
+
+abbrev pub kindNumberOf : Case → ℕ
+kindNumberOf c = number (relaxingOf c) where
+  number : Answer Relaxed → ℕ
+  number (refuses n) = 19
+  number (gives unrelaxed) = 19
+  number (gives (relaxed k t m r)) = shapeOf k .number
+
+-- a register after the relaxed and filled instruction
+abbrev pub registerAfter : Case → ℕ → ℕ
+registerAfter c k = at (step (new (relaxingOf c)) (c .offset - head (c .type)) (c .base) (stateOf c)) where
+  new : Answer Relaxed → List ℕ
+  new (refuses n) = []
+  new (gives unrelaxed) = []
+  new (gives (relaxed k t m r)) = fill (filling c t r) (r .offset) (r .bytes)
+
+  at : Result → ℕ
+  at stop = 0
+  at (next s a) = s .regs k
+
+-- the third case: `4C 8B 2D` with a fixed address
+abbrev pub plantTwo : Case
+plantTwo = case 42 (0x4C ∷ 0x8B ∷ 0x2D ∷ 16 ∷ 0 ∷ 0 ∷ 0 ∷ []) 3 1 0 0x401000 0x402000
+
+pub record Worked : Type 0 where
+  pub all : map meets cases ≡ map (λ _. true) cases
+  pub instances : (c : Case) → meets c ≡ true → Instance c
+  -- MovIndirectToLea, MovIndirectToAbsolute, RexMov, RexAdd, RexSub, RexCmp, Call, Jmp; then type 9, and the REX2 forms
+  pub kinds : map kindNumberOf cases ≡ 0 ∷ 1 ∷ 2 ∷ 3 ∷ 5 ∷ 6 ∷ 7 ∷ 8 ∷ 0 ∷ 2 ∷ 3 ∷ []
+  pub r13 : registerAfter plantTwo 13 ≡ 0x402000
+  pub rbp : registerAfter plantTwo 5 ≡ 5 * 16
