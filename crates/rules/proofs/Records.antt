@@ -3,19 +3,20 @@ use mathlib.Core.Path.{refl}
 use Rattle.rules.specs.Range.{byteRange, signed64}
 use Rattle.rules.specs.Types.{earlierTypes, laterTypes, lookup}
 use Rattle.rules.specs.Plt.{template, displacement, inReach, pltAnswer, pltBytes}
-use Rattle.rules.specs.Choose.{given, pick, inRange, rexGotpcrelx, gotpcrelx, gotpcrel, gottpoff, code6Gottpoff, tlsgd, tlsld, tlsdesc, choose, choosing}
+use Rattle.rules.specs.Choose.{given, pick, inRange, rexGotpcrelx, gotpcrelx, gotpcrel, gottpoff, code6Gottpoff, tlsgd, tlsld, tlsdesc, choose, choosing, needsGotFallback}
 use Rattle.rules.specs.Rewrite.{rexMoved, rex2Moved, rexCopied, evexMoved, relaxChosen, relaxing}
 use Rattle.rules.specs.Records.{Worked}
 use Rattle.rules.specs.Starred.{StarredHold}
 
 pub worked : Worked
-unfolding byteRange signed64 earlierTypes laterTypes lookup template displacement inReach pltAnswer pltBytes
+unfolding byteRange signed64 earlierTypes laterTypes lookup needsGotFallback template displacement inReach pltAnswer pltBytes
 worked =
     record {
       known = refl;
       signed32 = refl;
       unsigned32 = refl;
       lookups = refl;
+      fallback = refl;
       plt = refl;
       plt-fits = refl;
       plt-one-more = refl;

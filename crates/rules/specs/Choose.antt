@@ -9,13 +9,13 @@ use lib.Bits.{bitAnd}
 use Rattle.rules.specs.Answer.{Answer, gives, refuses}
 use Rattle.rules.specs.Record.{isN, isA, isK, isF, isS, isE, isP, ifunc}
 use Rattle.rules.specs.Range.{contains, signed64}
-use Rattle.rules.specs.Types.{Row, lookup, kindNumber}
+use Rattle.rules.specs.Types.{Row, lookup, kindNumber, Absolute}
 use Rattle.rules.specs.Kinds.{RelaxationKind, MovIndirectToLea, MovIndirectToAbsolute, RexMovIndirectToAbsolute, RexAddIndirectToAbsolute}
 use Rattle.rules.specs.Kinds.{RexSubIndirectToAbsolute, RexCmpIndirectToAbsolute, CallIndirectToRelative, JmpIndirectToRelative, NoOp}
 use Rattle.rules.specs.Kinds.{TlsGdToLocalExec, TlsGdToLocalExecLarge, TlsLdToLocalExec, TlsLdToLocalExecNoPlt, TlsLdToLocalExec64}
 use Rattle.rules.specs.Kinds.{TlsGdToInitialExec, TlsDescToLocalExec, TlsDescToInitialExec, SkipTlsDescCall}
 
--- none, or a kind with the new type ("to t") and whether it is mandatory ("m")
+-- none, or a kind with the new type ("to t") and `is_mandatory` ("m")
 pub data Choice : Type 0 where
   none : Choice
   chosen : RelaxationKind → ℕ → Bool → Choice
@@ -182,7 +182,10 @@ module _ (sec : List ℕ) (off flags kind address : ℕ) (addend : ℤ) where
       (cond (ltb 15 flags) (refuses 3)
       (cond (ltb 5 kind) (refuses 4) (gives (choose type executable)))))
 
--- `needs_got_fallback`: the new type holds an absolute address
+-- `needs_got_fallback`: the new type's kind is Absolute
 abbrev pub isAbsolute : Answer Row → Bool
+isAbsolute (gives r) = eqb (kindNumber (r .kind)) (kindNumber Absolute)
 isAbsolute (refuses n) = false
-isAbsolute (gives r) = eqb (kindNumber (r .kind)) 0
+
+unfoldable pub needsGotFallback : ℕ → Bool
+needsGotFallback t = isAbsolute (lookup t)
