@@ -16,7 +16,7 @@ use Rattle.rules.specs.Range.{signed64, byteRange}
 use Rattle.rules.specs.Types.{lookup, earlierTypes, laterTypes}
 use Rattle.rules.specs.Choose.{inRange, isRexW}
 use Rattle.rules.specs.Rewrite.{relocated, wordOf, Holds, Filled}
-use Rattle.rules.specs.Machine.{State, Result, stop, next, word, size, signed32, fieldAt, read4, read8, load, Op, exec, push, Source, slot, imm, addr}
+use Rattle.rules.specs.Machine.{State, Result, stop, stepped, word, size, signed32, fieldAt, read4, read8, load, Op, exec, push, Source, slot, imm, addr}
 use Rattle.rules.specs.Machine.{Form, bad, alu, call, jump, ripRelative, decodeAt, operand, perform, header, step}
 use Rattle.rules.specs.Meaning.{slotValue, Alike}
 use Rattle.rules.proofs.Arith.{between, and-left, and-right, field4-bytes, read8-lt, read8-mod, read8-low, in-signed, signed-low, signed-mod, back}

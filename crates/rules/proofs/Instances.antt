@@ -27,6 +27,7 @@ pub stored-holds : (l : List ℕ) (at x : ℕ) → at + 4 ≤ length l
 stored-holds l at x h =
     let vs : List ℕ = x / 256 ^ 0 % 256 ∷ x / 256 ^ 1 % 256 ∷ x / 256 ^ 2 % 256 ∷ x / 256 ^ 3 % 256 ∷ [] in
     record {
+      inside = h;
       size = length-sets l at vs;
       field = field;
       before = λ i b. run-before vs l at i b;
@@ -60,7 +61,7 @@ module _ (c : Case) (covers : T (covered (c .type))) (i : Instruction (c .type) 
       record {
         instruction = i;
         kind = k;
-        type = n;
+        newType = n;
         mandatory = m;
         result = r;
         relaxes = e;
@@ -99,4 +100,6 @@ worked =
       kinds = refl;
       r13 = refl;
       rbp = refl;
+      r16 = refl;
+      r8 = refl;
     }

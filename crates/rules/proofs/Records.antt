@@ -17,13 +17,10 @@ worked =
       unsigned32 = refl;
       lookups = refl;
       fallback = refl;
-      plt = refl;
-      plt-fits = refl;
-      plt-one-more = refl;
       plt-blank = refl;
       plt-short = refl;
     }
 
 pub starred-hold : StarredHold
-unfolding byteRange signed64 earlierTypes laterTypes lookup given pick inRange rexGotpcrelx gotpcrelx gotpcrel gottpoff code6Gottpoff tlsgd tlsld tlsdesc choose choosing rexMoved rex2Moved rexCopied evexMoved relaxChosen relaxing
+unfolding byteRange signed64 earlierTypes laterTypes lookup given pick inRange rexGotpcrelx gotpcrelx gotpcrel gottpoff code6Gottpoff tlsgd tlsld tlsdesc choose choosing rexMoved rex2Moved rexCopied evexMoved relaxChosen relaxing template displacement inReach pltAnswer pltBytes
 starred-hold = record { hold = refl }

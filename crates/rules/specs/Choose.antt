@@ -1,4 +1,5 @@
--- Document 01, 'Choosing', in its order. Assumes nothing.
+-- Document 01, 'Choosing', in its order; the rules that come before the type (ifunc, not executable) are joined to it at the end. Assumes
+-- nothing.
 use mathlib.Core.Bool.{Bool, true, false, not, _&&_, _||_, cond}
 use mathlib.Core.List.{List, [], _∷_}
 use Prim.Native.Nat.{ℕ, _+_, _-_}
@@ -7,7 +8,7 @@ use lib.ListN.{length, getD, drop}
 use lib.IntN.{ℤ, pos, negsuc}
 use lib.Bits.{bitAnd}
 use Rattle.rules.specs.Answer.{Answer, gives, refuses}
-use Rattle.rules.specs.Record.{isN, isA, isK, isF, isS, isE, isP, ifunc}
+use Rattle.rules.specs.Record.{flagsAbove, kindAbove, isN, isA, isK, isF, isS, isE, isP, ifunc}
 use Rattle.rules.specs.Range.{contains, signed64}
 use Rattle.rules.specs.Types.{Row, lookup, kindNumber, Absolute}
 use Rattle.rules.specs.Kinds.{RelaxationKind, MovIndirectToLea, MovIndirectToAbsolute, RexMovIndirectToAbsolute, RexAddIndirectToAbsolute}
@@ -47,8 +48,16 @@ isRexW b = eqb b 0x48 || eqb b 0x4C
 -- whether a fixed byte string begins a part
 abbrev pub startsWith : List ℕ → List ℕ → Bool
 startsWith [] s = true
-startsWith (a ∷ fixed) [] = false
-startsWith (a ∷ fixed) (b ∷ s) = eqb b a && startsWith fixed s
+startsWith (a ∷ string) [] = false
+startsWith (a ∷ string) (b ∷ s) = eqb b a && startsWith string s
+
+-- 1: "section longer than 268,435,456"
+abbrev pub tooLong : List ℕ → Bool
+tooLong sec = ltb 268435456 (length sec)
+
+-- 2: "offset above the length"
+abbrev pub past : List ℕ → ℕ → Bool
+past sec off = ltb (length sec) off
 
 module _ (sec : List ℕ) (off flags kind address : ℕ) (addend : ℤ) where
   -- "byte −k"
@@ -61,7 +70,7 @@ module _ (sec : List ℕ) (off flags kind address : ℕ) (addend : ℤ) where
 
   -- a fixed byte string stands before the offset
   abbrev stands : List ℕ → Bool
-  stands fixed = leb (length fixed) off && startsWith fixed (drop (off - length fixed) sec)
+  stands string = leb (length string) off && startsWith string (drop (off - length string) sec)
 
   abbrev N : Bool
   N = isN flags
@@ -76,15 +85,15 @@ module _ (sec : List ℕ) (off flags kind address : ℕ) (addend : ℤ) where
   S = isS kind
 
   -- "A or (K and F)"
-  abbrev absolute : Bool
-  absolute = isA flags || (isK flags && isF kind)
+  abbrev fixed : Bool
+  fixed = isA flags || (isK flags && isF kind)
 
   -- 42, 43, with instruction offset n; "for 43 the byte −4 changes nothing"
   unfoldable pub rexGotpcrelx : ℕ → Choice
   rexGotpcrelx n =
       given (leb 3 off && isRexW (byte 3))
       (given (isMinus4 addend && N)
-      (pick absolute
+      (pick fixed
       (given (inRange 11 (signed64 address))
       (pick (eqb (byte 2) 0x8B) (chosen (RexMovIndirectToAbsolute n) 11 (S && A))
       (pick (eqb (byte 2) 0x2B) (chosen (RexSubIndirectToAbsolute n) 11 (S && A))
@@ -96,7 +105,7 @@ module _ (sec : List ℕ) (off flags kind address : ℕ) (addend : ℤ) where
   gotpcrelx =
       given (isMinus4 addend && leb 2 off && N)
       (pick (eqb (byte 2) 0x8B)
-      (pick absolute
+      (pick fixed
       (given (inRange 10 (signed64 address)) (chosen MovIndirectToAbsolute 10 S))
       (chosen MovIndirectToLea 2 S))
       (given (eqb (byte 2) 0xFF)
@@ -177,10 +186,10 @@ module _ (sec : List ℕ) (off flags kind address : ℕ) (addend : ℤ) where
   -- "Choosing alone: 1, 2, 3, 4"
   unfoldable pub choosing : ℕ → Bool → Answer Choice
   choosing type executable =
-      cond (ltb 268435456 (length sec)) (refuses 1)
-      (cond (ltb (length sec) off) (refuses 2)
-      (cond (ltb 15 flags) (refuses 3)
-      (cond (ltb 5 kind) (refuses 4) (gives (choose type executable)))))
+      cond (tooLong sec) (refuses 1)
+      (cond (past sec off) (refuses 2)
+      (cond (flagsAbove flags) (refuses 3)
+      (cond (kindAbove kind) (refuses 4) (gives (choose type executable)))))
 
 -- `needs_got_fallback`: the new type's kind is Absolute
 abbrev pub isAbsolute : Answer Row → Bool

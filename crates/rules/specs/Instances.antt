@@ -13,7 +13,7 @@ use Rattle.rules.specs.Range.{signed64}
 use Rattle.rules.specs.Kinds.{RelaxationKind, shapeOf}
 use Rattle.rules.specs.Choose.{inRange}
 use Rattle.rules.specs.Rewrite.{Rewritten, Relaxed, unrelaxed, relaxed, relaxing, relocated, Filled}
-use Rattle.rules.specs.Machine.{State, Flags, Result, stop, next, word, signed32, fieldAt, ripRelative, step}
+use Rattle.rules.specs.Machine.{State, Flags, Result, stop, stepped, word, signed32, fieldAt, ripRelative, step}
 use Rattle.rules.specs.Meaning.{covered, head, begins, Instruction, slotValue, Alike}
 
 -- type, section, offset, flag number, output kind, symbol address, load address, and the slot's value
@@ -67,19 +67,27 @@ meets c =
 pub record Instance (c : Case) : Type 0 where
   pub instruction : Instruction (c .type) (c .section) (c .offset)
   pub kind : RelaxationKind
-  pub type : ℕ
+  pub newType : ℕ
   pub mandatory : Bool
   pub result : Rewritten
-  pub relaxes : relaxingOf c ≡ gives (relaxed kind type mandatory result)
+  pub relaxes : relaxingOf c ≡ gives (relaxed kind newType mandatory result)
   pub new : List ℕ
-  pub filled : Filled type (result .addend) (result .offset) (c .base) (slotValue (c .section) (c .offset) (c .base) (stateOf c .mem)) (result .bytes) new
+  pub filled : Filled newType (result .addend) (result .offset) (c .base) (slotValue (c .section) (c .offset) (c .base) (stateOf c .mem)) (result .bytes) new
   pub alike : Alike (step (c .section) (c .offset - head (c .type)) (c .base) (stateOf c)) (step new (c .offset - head (c .type)) (c .base) (stateOf c))
+
+-- plant two's instruction, with a fixed address
+abbrev pub plantTwo : Case
+plantTwo = case 42 (0x4C ∷ 0x8B ∷ 0x2D ∷ 16 ∷ 0 ∷ 0 ∷ 0 ∷ []) 3 1 0 0x401000 0x402000
+
+-- REX2 with R4 alone: r16
+abbrev pub addR16 : Case
+addR16 = case 44 (0xD5 ∷ 0x48 ∷ 0x03 ∷ 0x05 ∷ 16 ∷ 0 ∷ 0 ∷ 0 ∷ []) 4 1 0 0x401000 0xFFFFFFFFFFFFFFF0
 
 abbrev pub cases : List Case
 cases =
     case 42 (0x48 ∷ 0x8B ∷ 0x2D ∷ 16 ∷ 0 ∷ 0 ∷ 0 ∷ []) 3 1 1 0x401000 0x402000
     ∷ case 41 (0x8B ∷ 0x2D ∷ 16 ∷ 0 ∷ 0 ∷ 0 ∷ []) 2 1 0 0x401000 0x402000
-    ∷ case 42 (0x4C ∷ 0x8B ∷ 0x2D ∷ 16 ∷ 0 ∷ 0 ∷ 0 ∷ []) 3 1 0 0x401000 0x402000
+    ∷ plantTwo
     ∷ case 22 (0x4C ∷ 0x03 ∷ 0x25 ∷ 16 ∷ 0 ∷ 0 ∷ 0 ∷ []) 3 1 2 0x401000 0xFFFFFFFFFFFFFFF8
     ∷ case 42 (0x4C ∷ 0x2B ∷ 0x2D ∷ 16 ∷ 0 ∷ 0 ∷ 0 ∷ []) 3 3 0 0x401000 0x402000
     ∷ case 42 (0x48 ∷ 0x3B ∷ 0x05 ∷ 16 ∷ 0 ∷ 0 ∷ 0 ∷ []) 3 3 0 0x401000 0x402000
@@ -87,7 +95,7 @@ cases =
     ∷ case 41 (0xFF ∷ 0x25 ∷ 16 ∷ 0 ∷ 0 ∷ 0 ∷ []) 2 1 1 0x401000 0x402000
     ∷ case 9 (0x48 ∷ 0x8B ∷ 0x3D ∷ 16 ∷ 0 ∷ 0 ∷ 0 ∷ []) 3 1 1 0x401000 0x402000
     ∷ case 43 (0xD5 ∷ 0x4C ∷ 0x8B ∷ 0x2D ∷ 16 ∷ 0 ∷ 0 ∷ 0 ∷ []) 4 3 1 0x401000 0x402000
-    ∷ case 44 (0xD5 ∷ 0x48 ∷ 0x03 ∷ 0x05 ∷ 16 ∷ 0 ∷ 0 ∷ 0 ∷ []) 4 1 0 0x401000 0xFFFFFFFFFFFFFFF0
+    ∷ addR16
     ∷ []
 
 abbrev pub kindNumberOf : Case → ℕ
@@ -107,11 +115,7 @@ registerAfter c k = at (step (new (relaxingOf c)) (c .offset - head (c .type)) (
 
   at : Result → ℕ
   at stop = 0
-  at (next s a) = s .regs k
-
--- the third case: `4C 8B 2D` with a fixed address
-abbrev pub plantTwo : Case
-plantTwo = case 42 (0x4C ∷ 0x8B ∷ 0x2D ∷ 16 ∷ 0 ∷ 0 ∷ 0 ∷ []) 3 1 0 0x401000 0x402000
+  at (stepped s a) = s .regs k
 
 pub record Worked : Type 0 where
   pub all : map meets cases ≡ map (λ _. true) cases
@@ -120,3 +124,6 @@ pub record Worked : Type 0 where
   pub kinds : map kindNumberOf cases ≡ 0 ∷ 1 ∷ 2 ∷ 3 ∷ 5 ∷ 6 ∷ 7 ∷ 8 ∷ 0 ∷ 2 ∷ 3 ∷ []
   pub r13 : registerAfter plantTwo 13 ≡ 0x402000
   pub rbp : registerAfter plantTwo 5 ≡ 5 * 16
+  -- r16 held 16 * 16, and r8 is as it was
+  pub r16 : registerAfter addR16 16 ≡ 16 * 16 - 16
+  pub r8 : registerAfter addR16 8 ≡ 8 * 16

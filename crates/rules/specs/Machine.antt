@@ -5,6 +5,7 @@ use mathlib.Core.List.{List}
 use Prim.Native.Nat.{ℕ, _+_, _-_, _*_, _/_, _%_, _^_}
 use lib.Dec.{leb, ltb, eqb}
 use lib.ListN.{length, getD}
+use Rattle.rules.specs.Range.{bit}
 
 -- ---- the state: 32 registers, six status flags, memory of bytes at 64-bit addresses (SDM 1: 3.4.1, 3.4.3.1; APX: 32 registers)
 
@@ -25,18 +26,15 @@ pub record State : Type 0 where
 -- "Other bytes: no step"; else the state after it and the address where it goes on
 pub data Result : Type 0 where
   stop : Result
-  next : State → ℕ → Result
+  stepped : State → ℕ → Result
 
 -- ---- numbers: "sums wrap at 2^64, nothing faults"
 
 abbrev pub word : ℕ
 word = 2 ^ 64
 
-abbrev pub bit : ℕ → ℕ → ℕ
-bit k x = x / 2 ^ k % 2
-
 abbrev pub isSet : ℕ → ℕ → Bool
-isSet k x = eqb (bit k x) 1
+isSet x k = eqb (bit x k) 1
 
 -- the operand size by W: 64 or 32 bits (SDM 1: 3.6.1)
 abbrev pub size : Bool → ℕ
@@ -87,7 +85,7 @@ pub data Op : Type 0 where
 
 -- PF: the low byte has an even count of set bits
 unfoldable pub evenParity : ℕ → Bool
-evenParity x = eqb ((bit 0 x + bit 1 x + bit 2 x + bit 3 x + bit 4 x + bit 5 x + bit 6 x + bit 7 x) % 2) 0
+evenParity x = eqb ((bit x 0 + bit x 1 + bit x 2 + bit x 3 + bit x 4 + bit x 5 + bit x 6 + bit x 7) % 2) 0
 
 -- SF: the top bit
 unfoldable pub negative : Bool → ℕ → Bool
@@ -126,7 +124,7 @@ exec cmp w k v s =
     let r = (a + (size w - v)) % size w in
     record { regs = s .regs; flags = subFlags w a v r; mem = s .mem }
 
--- "then push next at rsp − 8" (SDM 2: CALL)
+-- "FF /2 and E8 then push next at rsp − 8" (SDM 2: CALL), 8 bytes whatever W says (SDM 2: 2.2.1.7)
 unfoldable pub push : ℕ → State → State
 push v s =
     let sp = (s .regs 4 + (word - 8)) % word in
@@ -186,13 +184,13 @@ opcode p w r b rel o m =
     (cond (eqb o 0xE9) (cond rel (jump addr (p + 1)) bad) bad)))))))))
 
 -- the form that the first four bytes begin: REX 40 to 4F with W, R, B (SDM 2: 2.2.1.2); REX2, D5 and a payload with M0, R4, W, R3, B4, B3
--- (APX: REX2), where M0 is another opcode map and E8, E9 are undefined; 67 before E8 (document 01: it "only adds length"); no prefix
+-- (APX: REX2; X3 and X4 extend an index, which no form here has), where M0 is another opcode map and E8, E9 are undefined; 67 before E8 (document 01: it "only adds length"); no prefix
 unfoldable pub decode : ℕ → ℕ → ℕ → ℕ → Form
 decode b0 b1 b2 b3 =
-    cond (eqb (b0 / 16) 4) (opcode 1 (isSet 3 b0) (bit 2 b0 * 8) (bit 0 b0 * 8) true b1 b2)
+    cond (eqb (b0 / 16) 4) (opcode 1 (isSet b0 3) (bit b0 2 * 8) (bit b0 0 * 8) true b1 b2)
     (cond (eqb b0 0xD5)
-    (cond (isSet 7 b1) bad
-    (opcode 2 (isSet 3 b1) (bit 6 b1 * 16 + bit 2 b1 * 8) (bit 4 b1 * 16 + bit 0 b1 * 8) false b2 b3))
+    (cond (isSet b1 7) bad
+    (opcode 2 (isSet b1 3) (bit b1 6 * 16 + bit b1 2 * 8) (bit b1 4 * 16 + bit b1 0 * 8) false b2 b3))
     (cond (eqb b0 0x67) (cond (eqb b1 0xE8) (call addr 2) bad)
     (opcode 0 false 0 0 true b0 b1)))
 
@@ -207,12 +205,13 @@ operand slot w m d n = load w m ((n + signed32 d) % word)
 operand imm w m d n = signed32 d % size w
 operand addr w m d n = (n + signed32 d) % word % size w
 
--- "next is the address after the instruction, where it goes on unless it calls or jumps": form, field, the instruction's address, state
+-- "next is the address after the instruction, where it goes on unless it calls or jumps" (SDM 2: CALL, JMP; near branches are 64 bits wide,
+-- 2.2.1.7): form, field, the instruction's address, state
 abbrev pub perform : Form → ℕ → ℕ → State → Result
 perform bad d a s = stop
-perform (alu o w k f h) d a s = next (exec o w k (operand f w (s .mem) d ((a + h + 4) % word)) s) ((a + h + 4) % word)
-perform (call f h) d a s = next (push ((a + h + 4) % word) s) (operand f true (s .mem) d ((a + h + 4) % word))
-perform (jump f h) d a s = next s (operand f true (s .mem) d ((a + h + 4) % word))
+perform (alu o w k f h) d a s = stepped (exec o w k (operand f w (s .mem) d ((a + h + 4) % word)) s) ((a + h + 4) % word)
+perform (call f h) d a s = stepped (push ((a + h + 4) % word) s) (operand f true (s .mem) d ((a + h + 4) % word))
+perform (jump f h) d a s = stepped s (operand f true (s .mem) d ((a + h + 4) % word))
 
 abbrev pub header : Form → ℕ
 header bad = 0

@@ -11,7 +11,7 @@ use Rattle.rules.specs.Answer.{gives}
 use Rattle.rules.specs.Kinds.{RelaxationKind}
 use Rattle.rules.specs.Choose.{chosen, choosing, isRexW}
 use Rattle.rules.specs.Rewrite.{Rewritten, rewriting, relaxed, relaxing, Filled}
-use Rattle.rules.specs.Machine.{State, Result, next, word, signed32, fieldAt, read8, ripRelative, step}
+use Rattle.rules.specs.Machine.{State, Result, stepped, word, signed32, fieldAt, read8, ripRelative, step}
 
 -- "types 9, 22 and 41 to 44"
 abbrev pub covered : ℕ → Bool
@@ -39,8 +39,8 @@ slotValue sec off base m = read8 m ((base + off + 4 + signed32 (fieldAt sec off)
 pub record Alike (x y : Result) : Type 0 where
   pub after : State
   pub goesOn : ℕ
-  pub first : x ≡ next after goesOn
-  pub second : y ≡ next after goesOn
+  pub first : x ≡ stepped after goesOn
+  pub second : y ≡ stepped after goesOn
 
 -- for a section after rewriting, and every state, load address and filled section
 abbrev pub EndsAlike : ℕ → List ℕ → ℕ → ℕ → Rewritten → Type 0

@@ -1,7 +1,7 @@
 -- Document 01's ranges of a 64-bit value: "a range means min ≤ v < max .. and the unchecked range any v". Assumes nothing.
 use mathlib.Core.Bool.{Bool, true, cond, _&&_, _||_}
 use mathlib.Core.Path.{_≡_}
-use Prim.Native.Nat.{ℕ, _+_, _-_, _*_, _%_, _^_, _<_}
+use Prim.Native.Nat.{ℕ, _+_, _-_, _*_, _/_, _%_, _^_, _<_}
 use lib.Dec.{eqb, ltb}
 use lib.IntN.{ℤ, pos, negsuc}
 use lib.Signed.{leZ, ltZ}
@@ -18,6 +18,10 @@ contains unchecked v = true
 pub data Sign : Type 0 where
   signed : Sign
   unsigned : Sign
+
+-- bit i of a number
+abbrev pub bit : ℕ → ℕ → ℕ
+bit x i = x / 2 ^ i % 2
 
 -- −n, of n above 0
 abbrev pub minus : ℕ → ℤ

@@ -7,9 +7,12 @@ use Rattle.rules.specs.Answer.{Answer, gives, refuses}
 
 -- ---- "a flag number (1 non-interposable, 2 absolute, 4 dynamic, 8 ifunc, summed)"
 
--- refusal 3: "flag number above 15"
+-- 3: "flag number above 15"
+abbrev pub flagsAbove : ℕ → Bool
+flagsAbove n = ltb 15 n
+
 unfoldable pub flagNumber : ℕ → Answer ℕ
-flagNumber n = cond (ltb 15 n) (refuses 3) (gives n)
+flagNumber n = cond (flagsAbove n) (refuses 3) (gives n)
 
 -- whether the flag of a weight is among the summands
 abbrev pub has : ℕ → ℕ → Bool
@@ -41,9 +44,12 @@ isK flags = not (ifunc flags) && not (dynamic flags) && not (absolute flags)
 
 -- ---- "Output kinds: 0 static fixed, 1 static position-independent, 2 dynamic fixed, 3 dynamic position-independent, 4 shared object, 5 partial link"
 
--- refusal 4: "output kind above 5"
+-- 4: "output kind above 5"
+abbrev pub kindAbove : ℕ → Bool
+kindAbove n = ltb 5 n
+
 unfoldable pub outputKind : ℕ → Answer ℕ
-outputKind n = cond (ltb 5 n) (refuses 4) (gives n)
+outputKind n = cond (kindAbove n) (refuses 4) (gives n)
 
 -- "F: kind 0 or 2"
 abbrev pub isF : ℕ → Bool

@@ -1,16 +1,15 @@
--- Document 01's worked records of the lookup and the PLT (★ proved), and its numbers in figures. Assumes nothing.
+-- Document 01's numbers in figures, and its records that are not starred and not of relaxing. Assumes nothing.
 use mathlib.Core.Path.{_≡_}
 use mathlib.Core.Bool.{true, false}
 use mathlib.Core.List.{List, [], _∷_, map}
 use Prim.Native.Nat.{ℕ, _+_}
 use lib.IntN.{pos, negsuc}
 use lib.ListN.{length, replicate}
-use lib.Seq.{sets}
 use Rattle.rules.specs.Answer.{Answer, gives, refuses}
 use Rattle.rules.specs.Range.{Range, within, unchecked}
 use Rattle.rules.specs.Types.{Row, types, lookup}
 use Rattle.rules.specs.Choose.{needsGotFallback}
-use Rattle.rules.specs.Plt.{template, pltAnswer, pltBytes}
+use Rattle.rules.specs.Plt.{template, pltBytes}
 
 abbrev pub rangeAt : ℕ → Answer Range
 rangeAt t = only (lookup t) where
@@ -32,10 +31,7 @@ pub record Worked : Type 0 where
   pub lookups : map rangeAt (27 ∷ 28 ∷ 52 ∷ []) ≡ gives unchecked ∷ refuses 7 ∷ refuses 7 ∷ []
   -- `needs_got_fallback` of the new types: of 10 and 11 alone
   pub fallback : map needsGotFallback (0 ∷ 2 ∷ 4 ∷ 10 ∷ 11 ∷ 22 ∷ 23 ∷ 25 ∷ []) ≡ false ∷ false ∷ false ∷ true ∷ true ∷ false ∷ false ∷ false ∷ []
-  -- ★ "GOT 0x404000, PLT 0x401020: bytes D6 2F 00 00. Difference 2,147,483,647 fits, one more: 9"
-  pub plt : pltBytes buffer 0x404000 0x401020 ≡ sets template 6 (0xd6 ∷ 0x2f ∷ 0x00 ∷ 0x00 ∷ [])
-  pub plt-fits : pltAnswer buffer (0x401020 + 10 + 2147483647) 0x401020 ≡ gives tt
-  pub plt-one-more : pltAnswer buffer (0x401020 + 10 + 2147483648) 0x401020 ≡ refuses 9
+  -- the PLT buffer under 9: "which then holds the blank template"
   pub plt-blank : pltBytes buffer (0x401020 + 10 + 2147483648) 0x401020 ≡ template
   -- "8 changes nothing"
   pub plt-short : pltBytes (replicate 15 0xa5) 0x404000 0x401020 ≡ replicate 15 0xa5

@@ -3,22 +3,19 @@ use mathlib.Core.Path.{_≡_}
 use mathlib.Core.Bool.{Bool, cond}
 use mathlib.Core.List.{List, [], _∷_}
 use Prim.Native.Nat.{ℕ, _+_, _-_, _*_, _/_, _%_, _^_, _≤_, _<_, max}
-use lib.Dec.{T, eqb, ltb}
+use lib.Dec.{T, eqb}
 use lib.ListN.{length, getD}
 use lib.Seq.{sets}
 use lib.IntN.{ℤ, pos, negsuc}
 use Rattle.rules.specs.Answer.{Answer, gives, refuses}
-use Rattle.rules.specs.Range.{signed64}
+use Rattle.rules.specs.Range.{bit, signed64}
 use Rattle.rules.specs.Kinds.{RelaxationKind, MovIndirectToLea, MovIndirectToAbsolute, RexMovIndirectToAbsolute, RexAddIndirectToAbsolute}
 use Rattle.rules.specs.Kinds.{RexAddIndirectToLea, RexSubIndirectToAbsolute, RexCmpIndirectToAbsolute, CallIndirectToRelative, JmpIndirectToRelative}
 use Rattle.rules.specs.Kinds.{NoOp, TlsGdToLocalExec, TlsGdToLocalExecLarge, TlsLdToLocalExec, TlsLdToLocalExecNoPlt, TlsLdToLocalExec64}
 use Rattle.rules.specs.Kinds.{TlsGdToInitialExec, TlsDescToLocalExec, TlsDescToInitialExec, SkipTlsDescCall, shapeOf, allowed, fits}
-use Rattle.rules.specs.Choose.{Choice, none, chosen, choosing, inRange}
+use Rattle.rules.specs.Choose.{Choice, none, chosen, tooLong, past, choosing, inRange}
 
 -- ---- "The register field moves with its high bits"
-
-abbrev pub bit : ℕ → ℕ → ℕ
-bit b i = b / 2 ^ i % 2
 
 -- "in REX, bit 2 goes to bit 0": it is cleared, and set there
 unfoldable pub rexMoved : ℕ → ℕ
@@ -36,7 +33,8 @@ moved inst b = cond (eqb inst 4) (rex2Moved b) (rexMoved b)
 unfoldable pub rexCopied : ℕ → ℕ
 rexCopied b = b / 2 * 2 + max (bit b 0) (bit b 2)
 
--- EVEX byte −5, whose bits are inverted: a clear bit 7 is set and clears bit 5; then a clear bit 4 is set and sets bit 3
+-- EVEX byte −5: R3 (bit 7) goes to B3 (bit 5), both inverted: a clear bit 7 is set and clears bit 5. Then R4 (bit 4, inverted) goes to B4
+-- (bit 3, not inverted): a clear bit 4 is set and sets bit 3
 unfoldable pub evexMoved : ℕ → ℕ
 evexMoved b = low (128 + bit b 6 * 64 + bit b 5 * bit b 7 * 32 + b % 32) where
   low : ℕ → ℕ
@@ -113,8 +111,8 @@ rewrite k sec off a = record { bytes = rewritten k sec off; offset = newOffset k
 -- "Rewriting alone: 1, 2, 5, 6"
 unfoldable pub rewriting : RelaxationKind → List ℕ → ℕ → ℤ → Answer Rewritten
 rewriting k sec off a =
-    cond (ltb 268435456 (length sec)) (refuses 1)
-    (cond (ltb (length sec) off) (refuses 2)
+    cond (tooLong sec) (refuses 1)
+    (cond (past sec off) (refuses 2)
     (cond (allowed k) (cond (fits k (length sec) off) (gives (rewrite k sec off a)) (refuses 6)) (refuses 5)))
 
 -- none, or the choice with what rewriting gives
@@ -156,6 +154,7 @@ relocated t v a p = cond (eqb t 2) ((v + wordOf a + (2 ^ 64 - p % 2 ^ 64)) % 2 ^
 
 -- "the low 4 bytes of that, low first, stand at the new offset, and no other byte is changed"
 pub record Holds (old new : List ℕ) (at x : ℕ) : Type 0 where
+  pub inside : at + 4 ≤ length old
   pub size : length new ≡ length old
   pub field : (i : ℕ) → i < 4 → getD new (at + i) 0 ≡ x / 256 ^ i % 256
   pub before : (i : ℕ) → i < at → getD new i 0 ≡ getD old i 0

@@ -3,12 +3,16 @@
 // promises with these definitions, and map their own enums to the numbers used here.
 ghost use Rattle.rules.specs.Meaning.{SameMeaning};
 ghost use Rattle.rules.specs.Instances.{Worked};
+ghost use Rattle.rules.specs.Runs.{Measured};
+ghost use Rattle.rules.specs.Starred.{StarredHold};
 
-// Demand 3. This function's only promise is the theorem, with its worked instances: it can't be
-// proved without them.
+// Demand 3. This function promises the theorem and what keeps it from being about nothing: worked
+// instances, a machine that takes a real CPU's steps, and rules that give document 01's records.
 pub fn demand_3() -> u8
     ensures { λ _. ⌜ SameMeaning ⌝ }
     ensures { λ _. ⌜ Worked ⌝ }
+    ensures { λ _. ⌜ Measured ⌝ }
+    ensures { λ _. ⌜ StarredHold ⌝ }
 {
     3
 }
