@@ -53,16 +53,16 @@ run-at (a ∷ vs) l i (suc k) j e h n = run-at vs (set l i a) (suc i) k j (omega
 
 -- ---- the kinds to an absolute field: opcode, new opcode, its digit, and the new type; one test over these, prefix and ModRM, for REX and REX2
 
-abbrev oldOps : List ℕ
+abbrev pub oldOps : List ℕ
 oldOps = 0x8B ∷ 0x2B ∷ 0x3B ∷ 0x8B ∷ 0x03 ∷ []
 
-abbrev newOps : List ℕ
+abbrev pub newOps : List ℕ
 newOps = 0xC7 ∷ 0x81 ∷ 0x81 ∷ 0xC7 ∷ 0x81 ∷ []
 
-abbrev digits : List ℕ
+abbrev pub digits : List ℕ
 digits = 0 ∷ 5 ∷ 7 ∷ 0 ∷ 0 ∷ []
 
-abbrev newTypes : List ℕ
+abbrev pub newTypes : List ℕ
 newTypes = 11 ∷ 11 ∷ 11 ∷ 23 ∷ 23 ∷ []
 
 abbrev old3 : ℕ → ℕ → ℕ → ℕ → Form

@@ -12,13 +12,14 @@ use lib.ListN.{length, getD}
 use lib.IntN.{ℤ, negsuc}
 use Rattle.rules.specs.Answer.{Answer, gives, refuses}
 use Rattle.rules.specs.Record.{ifunc}
-use Rattle.rules.specs.Kinds.{RelaxationKind, allowed, fits}
+use Rattle.rules.specs.Kinds.{RelaxationKind, MovIndirectToLea, allowed, fits}
 use Rattle.rules.specs.Choose.{Choice, none, chosen, given, pick, isRexW, rexGotpcrelx, gotpcrelx, gotpcrel, gottpoff, choose, choosing}
-use Rattle.rules.specs.Rewrite.{Rewritten, Relaxed, unrelaxed, relaxed, rewrite, rewriting, relaxChosen, relaxing}
+use Rattle.rules.specs.Rewrite.{toAbsolute, Rewritten, Relaxed, unrelaxed, relaxed, rewrite, rewriting, relaxChosen, relaxing}
+use Rattle.rules.specs.Machine.{ripRelative}
 use Rattle.rules.specs.Meaning.{covered, Instruction, EndsAlike, SameMeaning}
 use Rattle.rules.proofs.Arith.{and-right}
-use Rattle.rules.proofs.Forms.{In}
-use Rattle.rules.proofs.Places.{ops, abs2, abs3, abs4, lea-at-2, lea-at-3, lea-at-4, call-at, jmp-at}
+use Rattle.rules.proofs.Forms.{In, addendFor}
+use Rattle.rules.proofs.Places.{ops, oldOps, newOps, digits, newTypes, abs2, abs3, abs4, lea-at-2, lea-at-3, lea-at-4, call-at, jmp-at}
 
 -- what a choice means, as a record, so that the choice can be read off its type
 abbrev Means : ℕ → List ℕ → ℕ → Choice → Type 0
@@ -63,45 +64,57 @@ module _ (sec : List ℕ) (off flags kind address : ℕ) where
   pre : T (leb 3 off && isRexW (getD sec (off - 3) 0)) → T (isRexW (getD sec (off - 3) 0))
   pre g = and-right (leb 3 off) (isRexW (getD sec (off - 3) 0)) g
 
-  rex3 : Instruction 42 sec off → Sound 42 sec off (rexGotpcrelx sec off flags kind address (negsuc 3) 3)
+  -- what the places give for a prefix of n bytes with the opcode: the ith operation to an absolute field, and mov to lea
+  abbrev Absolute : ℕ → ℕ → Type 0
+  Absolute type n =
+      (i : ℕ) → In i ops → getD sec (off - 2) 0 ≡ getD oldOps i 0 → T (isRexW (getD sec (off - 3) 0))
+      → EndsAlike type sec off (getD newTypes i 0) (record {
+        bytes = toAbsolute n (getD newOps i 0) (getD digits i 0) sec off;
+        offset = off;
+        addend = addendFor (getD newTypes i 0);
+      })
+
+  abbrev Lea : ℕ → Type 0
+  Lea type =
+      T (isRexW (getD sec (off - 3) 0)) → getD sec (off - 2) 0 ≡ 0x8B → EndsAlike type sec off 2 (rewrite MovIndirectToLea sec off (negsuc 3))
+
+  -- 42 and 43
+  rex : (type n : ℕ) → Absolute type n → Lea type → Sound type sec off (rexGotpcrelx sec off flags kind address (negsuc 3) n)
   unfolding rexGotpcrelx
-  rex3 i =
+  rex type n absolute lea =
       by-given _ λ g. by-given _ λ _. by-pick _
       (λ _. by-given _ λ _.
-      by-pick _ (λ o. record { means = λ base s new c. abs3 sec new off base s (i .whole) 0 mov-11 (eqb→eq _ _ o) (pre g) (i .rip) (i .low) c })
-      (by-pick _ (λ o. record { means = λ base s new c. abs3 sec new off base s (i .whole) 1 sub-11 (eqb→eq _ _ o) (pre g) (i .rip) (i .low) c })
-      (by-given _ λ o. record { means = λ base s new c. abs3 sec new off base s (i .whole) 2 cmp-11 (eqb→eq _ _ o) (pre g) (i .rip) (i .low) c })))
-      (by-given _ λ o. record { means = λ base s new c. lea-at-3 sec new off base s (i .whole) (i .low) (pre g) (eqb→eq _ _ o) (i .rip) c })
+      by-pick _ (λ o. record { means = absolute 0 mov-11 (eqb→eq _ _ o) (pre g) })
+      (by-pick _ (λ o. record { means = absolute 1 sub-11 (eqb→eq _ _ o) (pre g) })
+      (by-given _ λ o. record { means = absolute 2 cmp-11 (eqb→eq _ _ o) (pre g) })))
+      (by-given _ λ o. record { means = lea (pre g) (eqb→eq _ _ o) })
 
-  rex4 : Instruction 43 sec off → Sound 43 sec off (rexGotpcrelx sec off flags kind address (negsuc 3) 4)
-  unfolding rexGotpcrelx
-  rex4 i =
-      by-given _ λ g. by-given _ λ _. by-pick _
-      (λ _. by-given _ λ _.
-      by-pick _ (λ o. record { means = λ base s new c. abs4 sec new off base s (i .whole) 0 mov-11 (eqb→eq _ _ o) (pre g) (i .rip) (i .low) (eqb→eq _ _ (i .first)) c })
-      (by-pick _ (λ o. record { means = λ base s new c. abs4 sec new off base s (i .whole) 1 sub-11 (eqb→eq _ _ o) (pre g) (i .rip) (i .low) (eqb→eq _ _ (i .first)) c })
-      (by-given _ λ o. record { means = λ base s new c. abs4 sec new off base s (i .whole) 2 cmp-11 (eqb→eq _ _ o) (pre g) (i .rip) (i .low) (eqb→eq _ _ (i .first)) c })))
-      (by-given _ λ o. record { means = λ base s new c. lea-at-4 sec new off base s (i .whole) (i .low) (eqb→eq _ _ (i .first)) (pre g) (eqb→eq _ _ o) (i .rip) c })
-
-  thread3 : Instruction 22 sec off → Sound 22 sec off (gottpoff sec off flags kind address (negsuc 3) 3)
+  -- 22 and 44, for which the instruction offset is not 6
+  thread : (type n : ℕ) → eqb n 6 ≡ false → Absolute type n → Sound type sec off (gottpoff sec off flags kind address (negsuc 3) n)
   unfolding gottpoff
-  thread3 i =
+  thread type n e absolute =
       by-given _ λ _. by-given _ λ g.
-      by-pick _ (λ o. record { means = λ base s new c. abs3 sec new off base s (i .whole) 3 mov-23 (eqb→eq _ _ o) (pre g) (i .rip) (i .low) c })
-      (by-given _ λ o. record { means = λ base s new c. abs3 sec new off base s (i .whole) 4 add-23 (eqb→eq _ _ o) (pre g) (i .rip) (i .low) c })
+      by-pick _ (λ o. record { means = absolute 3 mov-23 (eqb→eq _ _ o) (pre g) })
+      (by-given _ λ o. record { means = rw e (absolute 4 add-23 (eqb→eq _ _ o) (pre g)) })
 
-  thread4 : Instruction 44 sec off → Sound 44 sec off (gottpoff sec off flags kind address (negsuc 3) 4)
-  unfolding gottpoff
-  thread4 i =
-      by-given _ λ _. by-given _ λ g.
-      by-pick _ (λ o. record { means = λ base s new c. abs4 sec new off base s (i .whole) 3 mov-23 (eqb→eq _ _ o) (pre g) (i .rip) (i .low) (eqb→eq _ _ (i .first)) c })
-      (by-given _ λ o. record { means = λ base s new c. abs4 sec new off base s (i .whole) 4 add-23 (eqb→eq _ _ o) (pre g) (i .rip) (i .low) (eqb→eq _ _ (i .first)) c })
+  module _ (whole : off + 4 ≤ length sec) (rip : T (ripRelative (getD sec (off - 1) 0))) where
+    with-rex : 3 ≤ off → Absolute 42 3
+    with-rex low i k o g base s new c = abs3 sec new off base s whole i k o g rip low c
+
+    lea-rex : 3 ≤ off → Lea 42
+    lea-rex low g o base s new c = lea-at-3 sec new off base s whole low g o rip c
+
+    with-rex2 : 4 ≤ off → T (eqb (getD sec (off - 4) 0) 0xD5) → Absolute 43 4
+    with-rex2 low d i k o g base s new c = abs4 sec new off base s whole i k o g rip low (eqb→eq _ _ d) c
+
+    lea-rex2 : 4 ≤ off → T (eqb (getD sec (off - 4) 0) 0xD5) → Lea 43
+    lea-rex2 low d g o base s new c = lea-at-4 sec new off base s whole low (eqb→eq _ _ d) g o rip c
 
   nine : Instruction 9 sec off → Sound 9 sec off (gotpcrel sec off flags kind address (negsuc 3))
   unfolding gotpcrel
   nine i =
       by-given _ λ _. by-given _ λ g.
-      by-given _ λ o. record { means = λ base s new c. lea-at-3 sec new off base s (i .whole) (i .low) (pre g) (eqb→eq _ _ o) (i .rip) c }
+      by-given _ λ o. record { means = lea-rex (i .whole) (i .rip) (i .low) (pre g) (eqb→eq _ _ o) }
 
   plain : Instruction 41 sec off → Sound 41 sec off (gotpcrelx sec off flags kind address (negsuc 3))
   unfolding gotpcrelx
@@ -144,11 +157,11 @@ module _ (sec : List ℕ) (off flags kind address : ℕ) (executable : Bool) whe
   sound =
       by-type Claim
       (λ i. guarded (nine sec off flags kind address i))
-      (λ i. guarded (thread3 sec off flags kind address i))
+      (λ i. guarded (thread sec off flags kind address 22 3 refl (with-rex sec off flags kind address (i .whole) (i .rip) (i .low))))
       (λ i. guarded (plain sec off flags kind address i))
-      (λ i. guarded (rex3 sec off flags kind address i))
-      (λ i. guarded (rex4 sec off flags kind address i))
-      (λ i. guarded (thread4 sec off flags kind address i))
+      (λ i. guarded (rex sec off flags kind address 42 3 (with-rex sec off flags kind address (i .whole) (i .rip) (i .low)) (lea-rex sec off flags kind address (i .whole) (i .rip) (i .low))))
+      (λ i. guarded (rex sec off flags kind address 43 4 (with-rex2 sec off flags kind address (i .whole) (i .rip) (i .low) (i .first)) (lea-rex2 sec off flags kind address (i .whole) (i .rip) (i .low) (i .first))))
+      (λ i. guarded (thread sec off flags kind address 44 4 refl (with-rex2 sec off flags kind address (i .whole) (i .rip) (i .low) (i .first))))
 
 -- ---- from relaxing, and from choosing and rewriting, to the choice and the rewritten section
 
