@@ -12,6 +12,7 @@ use borrow.Author.Tests.{ltb-true, ltb-false, le-leb, lt-leb, lt-ltb, eqb-true, 
 use Rattle.machine_step.specs.Twin.{fit, flagsOf, stateOf, fromSlot, SlotHolds}
 use Rattle.machine_step.specs.declared.Flags as declared
 use Rattle.rules.specs.Range.{bit}
+use Rattle.rules.proofs.Arith.{field4-lt}
 use Rattle.rules.specs.Machine.{Op, Source, Form, Flags, State, mov, add, sub, cmp, slot, imm, addr, bad, alu, call, jump, size, load, signed32, field4, read4, read8, put, opcode, decode, byteOf, word, reg, ripRelative, isSet, exec, push, write8, addFlags, subFlags, stepped, stop, operand, perform, header, fieldAt, decodeAt, step}
 
 pub split : {P : Type 0} (t : Bool) → (t ≡ true → P) → (t ≡ false → P) → P
@@ -37,15 +38,11 @@ pub low-lt : (w : Bool) (x : ℕ) → x % size w < size w
 low-lt true x = omega arith
 low-lt false x = omega arith
 
-field-lt : (a b c d : ℕ) → field4 a b c d < 2 ^ 32
-unfolding field4
-field-lt a b c d = omega arith
-
 -- a slot at either width is the low bits of its eight bytes
 pub loads : (w : Bool) (m : ℕ → ℕ) (a v : ℕ) → v < 2 ^ 64 → read8 m a ≡ v → load w m a ≡ v % size w
 unfolding read8 read4
 loads true m a v h e = omega arith
-loads false m a v h e = rw (sym e) (omega (arith, field-lt (byteOf m a) (byteOf m (a + 1)) (byteOf m (a + 2)) (byteOf m (a + 3))))
+loads false m a v h e = rw (sym e) (omega (arith, field4-lt (byteOf m a) (byteOf m (a + 1)) (byteOf m (a + 2)) (byteOf m (a + 3))))
 
 -- a store into the list is a store into its registers
 pub put-set : (l : List ℕ) (k v : ℕ) → k < length l → put (λ (i : ℕ). getD l i 0) k v ≡ (λ (i : ℕ). getD (set l k v) i 0)

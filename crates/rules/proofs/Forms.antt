@@ -58,11 +58,11 @@ parts : {P : Type 0} (a b : Bool) → (T a → T b → P) → T (a && b) → P
 parts true b f t = f tt t
 parts false b f t = absurd t
 
-either : {P : Type 0} (a b : Bool) → (T a → P) → (T b → P) → T (a || b) → P
+pub either : {P : Type 0} (a b : Bool) → (T a → P) → (T b → P) → T (a || b) → P
 either true b f g t = f tt
 either false b f g t = g t
 
-is : (P : ℕ → Type 0) (n m : ℕ) → P m → T (eqb n m) → P n
+pub is : (P : ℕ → Type 0) (n m : ℕ) → P m → T (eqb n m) → P n
 is P n m p t = subst P (sym (eqb→eq n m t)) p
 
 alu-related : (o : Op) (k n t : ℕ) (w : Bool) → T (serves t w) → Related (alu o w k slot n) (after t n (alu o w k slot n)) t n n

@@ -18,7 +18,7 @@ use Rattle.rules.specs.Rewrite.{toAbsolute, Rewritten, Relaxed, unrelaxe
 use Rattle.rules.specs.Machine.{ripRelative}
 use Rattle.rules.specs.Meaning.{covered, Instruction, EndsAlike, SameMeaning}
 use Rattle.rules.proofs.Arith.{and-right}
-use Rattle.rules.proofs.Forms.{In, addendFor}
+use Rattle.rules.proofs.Forms.{In, addendFor, either, is}
 use Rattle.rules.proofs.Places.{ops, oldOps, newOps, digits, newTypes, abs2, abs3, abs4, lea-at-2, lea-at-3, lea-at-4, call-at, jmp-at}
 
 -- what a choice means, as a record, so that the choice can be read off its type
@@ -128,13 +128,6 @@ module _ (sec : List ℕ) (off flags kind address : ℕ) where
       (by-given _ λ m. record { means = λ base s new c. jmp-at sec new off base s (i .whole) (i .low) (eqb→eq _ _ o) (eqb→eq _ _ m) c }))
 
 -- ---- by the type
-
-either : {P : Type 0} (a b : Bool) → (T a → P) → (T b → P) → T (a || b) → P
-either true b f g t = f tt
-either false b f g t = g t
-
-is : (P : ℕ → Type 0) (n m : ℕ) → P m → T (eqb n m) → P n
-is P n m p t = subst P (sym (eqb→eq n m t)) p
 
 by-type : (P : ℕ → Type 0) → P 9 → P 22 → P 41 → P 42 → P 43 → P 44 → (n : ℕ) → T (covered n) → P n
 by-type P a b c d e f n =
