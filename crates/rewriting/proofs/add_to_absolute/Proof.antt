@@ -1,0 +1,22 @@
+-- `add_to_absolute` meets its contract, by prefix.
+-- Assumes nothing.
+use Rattle.rewriting.proofs.Window.{or-false}
+use Rattle.rewriting.specs.Apply.{attempt}
+use Rattle.rules.specs.Rewrite.{afterRewriting}
+use borrow.Author.Needs.{needs}
+use borrow.Author.Tests.{ne-eqb}
+use mathlib.Core.Path.{refl}
+use Rattle.rewriting.proofs.add_to_absolute.Statement.{statement}
+use Rattle.rewriting.proofs.add_to_absolute.Tie as tie
+
+pub add-to-absolute-spec : {M : Type 1} → statement M
+unfolding attempt afterRewriting
+add-to-absolute-spec =
+    tie.close
+    (tie.spec
+    (λ c κs. search needs)
+    (λ c κs. search needs)
+    (λ c. search needs)
+    (λ c. rw (c .before .before .before .before .if1 .taken) (c .before .before .evex-add-to-absolute .ensures))
+    (λ c. search needs)
+    (λ c. simp (ne-eqb _ _ (c .before .before .before .before .if1 .left), or-false) (c .before .before .to-absolute .ensures)))
