@@ -1,0 +1,4 @@
+pub mod Sequence
+pub mod Tests
+pub mod Types
+pub mod Numbers

@@ -1,0 +1,20 @@
+-- `branch` meets its contract.
+-- Assumes nothing.
+use Rattle.new_relaxation.specs.Choices.{branchTo}
+use Rattle.rules.specs.Choose.{given}
+use Rattle.rules.specs.Choose.{pick}
+use borrow.Author.Needs.{needs}
+use borrow.Author.Tests.{ne-eqb}
+use Rattle.new_relaxation.proofs.branch.Statement.{statement}
+use Rattle.new_relaxation.proofs.branch.Tie as tie
+
+pub branch-spec : {M : Type 1} → statement M
+unfolding branchTo given pick
+branch-spec =
+    tie.close
+    (tie.spec
+    (λ c κs. search needs)
+    (λ c κs. search needs)
+    (λ c. simp (c .before .match .keys1, c .relax-to .ensures))
+    (λ c. simp (c .before .match .keys2, c .relax-to2 .ensures))
+    (λ c. simp (ne-eqb _ _ (c .match .rest .0 .1), ne-eqb _ _ (c .match .rest .1))))

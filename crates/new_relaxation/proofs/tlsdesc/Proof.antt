@@ -1,0 +1,29 @@
+-- `tlsdesc` meets its contract.
+-- Assumes nothing.
+use Rattle.new_relaxation.proofs.Tests.{and-false, and-true}
+use Rattle.new_relaxation.specs.Choices.{descChoice}
+use Rattle.rules.specs.Choose.{given}
+use Rattle.rules.specs.Choose.{pick}
+use Rattle.rules.specs.Choose.{tlsdesc}
+use borrow.Author.Needs.{needs}
+use borrow.Author.Tests.{le-leb, le-ltb, lt-leb, lt-ltb}
+use Rattle.new_relaxation.proofs.tlsdesc.Statement.{statement}
+use Rattle.new_relaxation.proofs.tlsdesc.Tie as tie
+
+pub tlsdesc-spec : {M : Type 1} → statement M
+unfolding tlsdesc given pick descChoice
+tlsdesc-spec =
+    tie.close
+    (tie.spec
+    (λ c. simp (lt-leb _ _ (c .if1 .taken), lt-ltb _ _ (c .if1 .taken), and-false, and-true))
+    (λ c κs. search needs)
+    (λ c. search needs)
+    (λ c κs. search needs)
+    (λ c. search needs)
+    (λ c. search needs)
+    (λ c. search needs)
+    (λ c. search needs)
+    (λ c κs. search needs)
+    (λ c κs. search needs)
+    (λ c κs. search needs)
+    (λ c. simp (← c .before .before .before .before .before .before .before .is-executable .ensures, ← c .before .before .before .before .before .is-rex-w .ensures, ← c .before .before .is-non-interposable .ensures, ← c .before .is-static-executable .ensures, le-ltb _ _ (c .before .before .before .before .before .before .before .before .if1 .left), le-leb _ _ (c .before .before .before .before .before .before .before .before .if1 .left), c .desc-choice .ensures, and-false, and-true)))
