@@ -1,0 +1,25 @@
+-- `jitamoro_relax` meets its contract, answer by answer.
+-- Assumes nothing.
+use mir.Facts.{toZ-ofZ}
+use mir.Syntax.{w64}
+use borrow.Author.Needs.{needs, sfits-of}
+use Rattle.jitamoro.proofs.jitamoro_relax.Statement.{statement}
+use Rattle.jitamoro.proofs.jitamoro_relax.Tie as tie
+
+pub jitamoro-relax-spec : {M : Type 1} → statement M
+jitamoro-relax-spec =
+    tie.close
+    (tie.spec
+    (λ c κs. search needs)
+    (λ c. search needs)
+    (λ c κs. search needs)
+    (λ c. search needs)
+    (λ c κs. search needs)
+    (λ c. search needs)
+    (λ c κs. search needs)
+    (λ c. search needs)
+    (λ c. let e = rw (toZ-ofZ {w = w64} (c .before .before .before .before .before .before .before .before .fits .addend)) at (c .before .before .before .before .before .relax .ensures) in (rw (← e .0, c .before .enum-told .given .1) (c .not-relaxed .ensures), e .1 .0))
+    (λ c. search needs)
+    (λ c. let e = rw (toZ-ofZ {w = w64} (c .before .before .before .before .before .before .before .before .before .before .fits .addend)) at (c .before .before .before .before .before .before .before .relax .ensures) in (rw (← e .0, c .before .before .before .relaxation .given .1, c .before .choice-answer .ensures, toZ-ofZ {w = w64} {z = c .before .before .before .relaxation .given .0 .1 .0 .addend} (sfits-of {w = w64} (c .struct-told .given .1 .0 .1))), e .1 .0))
+    (λ c. search needs)
+    (λ c. let e = rw (toZ-ofZ {w = w64} (c .before .before .before .before .before .before .before .before .before .fits .addend)) at (c .before .before .before .before .before .before .relax .ensures) in (rw (← e .0, c .before .before .n .given .1) (c .not-relaxed2 .ensures), e .1 .0)))
