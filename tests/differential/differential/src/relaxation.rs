@@ -247,8 +247,16 @@ fn choice_answer(relaxation: &Relaxation) -> ChoiceAnswer {
 }
 
 /// The types that a choice can name, each with wild's row. A choice has the row alone.
-const NEW_TYPES: [(u32, RelocationKindInfo); 8] =
-    [row(0), row(2), row(4), row(10), row(11), row(22), row(23), row(25)];
+const NEW_TYPES: [(u32, RelocationKindInfo); 8] = [
+    row(0),
+    row(2),
+    row(4),
+    row(10),
+    row(11),
+    row(22),
+    row(23),
+    row(25),
+];
 
 const fn row(r_type: u32) -> (u32, RelocationKindInfo) {
     (r_type, oracle::relocation_from_raw(r_type).unwrap())

@@ -116,7 +116,10 @@ fn change(section: &mut Section, offset: usize, dice: &mut Dice) {
     } else {
         dice.roll(26)
     };
-    let Some(byte) = section.lent_mut().get_mut((offset + place as usize).wrapping_sub(6)) else {
+    let Some(byte) = section
+        .lent_mut()
+        .get_mut((offset + place as usize).wrapping_sub(6))
+    else {
         return;
     };
     *byte = match dice.roll(3) {

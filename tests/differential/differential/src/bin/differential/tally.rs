@@ -45,38 +45,42 @@ impl Answers {
 }
 
 impl Tally {
-    /// Prints how often each answer was seen, and says how many that there are never were.
+    /// Prints how often each answer was seen, and says how many never were.
     pub fn print(&self) -> usize {
-        let columns = [&self.choosing, &self.rewriting, &self.relaxing];
+        let head = ["choosing", "rewriting", "relaxing"];
+        println!("{:<28}{:>12}{:>12}{:>12}", "", head[0], head[1], head[2]);
         let mut unseen = 0;
-        println!("{:<28}{:>12}{:>12}{:>12}", "", "choosing", "rewriting", "relaxing");
-        // `given` says which of the three give this answer.
-        let mut row = |name: String, counts: [u64; 3], given: [bool; 3]| {
-            let [choosing, rewriting, relaxing] = counts;
-            println!("{name:<28}{choosing:>12}{rewriting:>12}{relaxing:>12}");
-            let never = (0..3).filter(|&i| given[i] && counts[i] == 0).count();
-            if never != 0 {
-                println!("never seen: {name}");
-            }
-            unseen += never;
-        };
-        for kind in 0..19 {
-            for &inst_offset in relaxation::inst_offsets(kind) {
-                let (number, place) = (usize::from(kind), usize::from(inst_offset));
+        for (kind, name) in KIND_NAMES.iter().enumerate() {
+            let chosen = kind as u8 != REX_ADD_TO_LEA;
+            for &inst_offset in relaxation::inst_offsets(kind as u8) {
                 let name = match inst_offset {
-                    0 => KIND_NAMES[number].to_string(),
-                    _ => format!("{}({inst_offset})", KIND_NAMES[number]),
+                    0 => name.to_string(),
+                    _ => format!("{name}({inst_offset})"),
                 };
-                let chosen = kind != REX_ADD_TO_LEA;
-                let counts = columns.map(|answers| answers.kinds[number][place]);
-                row(name, counts, [chosen, true, chosen]);
+                let count = |it: &Answers| it.kinds[kind][usize::from(inst_offset)];
+                unseen += self.print_row(&name, count, [chosen, true, chosen]);
             }
         }
-        row("none".into(), columns.map(|answers| answers.none), [true, false, true]);
+        unseen += self.print_row("none", |it| it.none, [true, false, true]);
         for refusal in 1..7 {
-            let counts = columns.map(|answers| answers.refused[refusal]);
             let given = [refusal < 5, matches!(refusal, 1 | 2 | 5 | 6), refusal != 5];
-            row(format!("refusal {refusal}"), counts, given);
+            let name = format!("refusal {refusal}");
+            unseen += self.print_row(&name, |it| it.refused[refusal], given);
+        }
+        unseen
+    }
+
+    /// `given` says which of the three functions give this answer.
+    fn print_row(&self, name: &str, count: impl Fn(&Answers) -> u64, given: [bool; 3]) -> usize {
+        let counts = [&self.choosing, &self.rewriting, &self.relaxing].map(count);
+        let [choosing, rewriting, relaxing] = counts;
+        println!("{name:<28}{choosing:>12}{rewriting:>12}{relaxing:>12}");
+        let unseen = counts.iter().zip(given);
+        let unseen = unseen
+            .filter(|&(&count, given)| given && count == 0)
+            .count();
+        if unseen != 0 {
+            println!("differential: {name} was never seen");
         }
         unseen
     }
