@@ -32,13 +32,14 @@ pub struct Record {
 impl Record {
     /// Refusals 1 to 4, or 0.
     fn refusal(&self, length: usize) -> u8 {
-        match () {
-            () if length > SECTION_LIMIT => 1,
-            () if self.offset > length as u64 => 2,
-            () if self.flags > 15 => 3,
-            () if self.output_kind > 5 => 4,
-            () => 0,
-        }
+        let conditions = [
+            length > SECTION_LIMIT,
+            self.offset > length as u64,
+            self.flags > 15,
+            self.output_kind > 5,
+        ];
+        let first = conditions.iter().position(|&refused| refused);
+        first.map_or(0, |place| place as u8 + 1)
     }
 }
 

@@ -47,6 +47,7 @@ pub fn write() {
     (0..64)
         .chain(far_types())
         .for_each(|r_type| type_number(r_type, &mut random));
+    ifunc(&mut random);
     edges(&mut random);
     refusals(&mut random);
     (0..19).for_each(|kind| rewritings(kind, &mut random));
@@ -103,7 +104,8 @@ fn changed_bytes(sequence: &Sequence, random: &mut Random) {
     }
 }
 
-/// The sequence alone, then with a byte less at its front, then at its end.
+/// The sequence alone, then with a byte less at its front, then at its end; a thread-local one also
+/// about the end of what is looked at.
 fn cut(sequence: &Sequence, random: &mut Random) {
     let section = section_of(sequence, random);
     let start = OFFSET - sequence.before.len();
@@ -113,6 +115,11 @@ fn cut(sequence: &Sequence, random: &mut Random) {
         record.offset = (OFFSET - start.min(OFFSET)) as u64;
         relax(&record, &section[start..end]);
     }
+    if matches!(sequence.r_type, 19 | 20) {
+        for end in OFFSET + 5..OFFSET + 9 {
+            choose(&record_of(sequence, 1, 1), &section[..end]);
+        }
+    }
 }
 
 /// Powers of two, and types that are relaxed in all but their high bytes.
@@ -120,7 +127,8 @@ fn far_types() -> impl Iterator<Item = u32> {
     let alike = [8, 16, 24]
         .into_iter()
         .flat_map(|shift| [4, 35, 42].map(|r_type| r_type | 1 << shift));
-    (6..32).map(|bit| 1 << bit).chain(alike).chain([u32::MAX])
+    let powers = [6, 7, 8, 16, 31].map(|bit| 1 << bit);
+    powers.into_iter().chain(alike).chain([u32::MAX])
 }
 
 /// A type with its own bytes, or where it has none with those of type 42.
@@ -130,7 +138,18 @@ fn type_number(r_type: u32, random: &mut Random) {
     let section = section_of(sequence, random);
     let mut record = record_of(sequence, 1, 0);
     record.r_type = r_type;
-    relax(&record, &section);
+    choose(&record, &section);
+}
+
+/// Type 2 with an ifunc, which is relaxed in sections of both sorts.
+fn ifunc(random: &mut Random) {
+    let sequence = SEQUENCES.iter().find(|it| it.r_type == 2).unwrap();
+    let section = section_of(sequence, random);
+    for (output_kind, executable) in (0..6).flat_map(|k| [(k, false), (k, true)]) {
+        let mut record = record_of(sequence, 8, output_kind);
+        record.executable = executable;
+        relax(&record, &section);
+    }
 }
 
 /// Addresses at the ends of the ranges of types 10 and 11; addends about -4 and at the ends.
