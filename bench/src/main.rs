@@ -1,12 +1,15 @@
 //! Times the port against wild's Rust: one driver, the same inputs, both called through a pointer
 //! to an `extern "C"` function. Buffers aren't cleared between calls. No figure passes or fails.
 
+mod relaxing;
+
 use differential::KNOWN_TYPES;
 use differential::Random;
 use libwild::oracle;
 use libwild::oracle::RelocationKindInfo;
 use std::hint::black_box;
 use std::slice;
+use std::time::Duration;
 use std::time::Instant;
 
 const SEED: u64 = 1;
@@ -74,11 +77,12 @@ fn main() {
     for length in [0, 1, 7, 16, 64, LONGEST] {
         time_padding(length);
     }
+    relaxing::time_all(&mut random);
 }
 
 fn time_lookup(name: &str, types: &[u32]) {
-    let port = || look_up(port::jitamoro_relocation_from_raw, types);
-    let rust = || look_up(rust_relocation_from_raw, types);
+    let port = || elapsed(|| look_up(port::jitamoro_relocation_from_raw, types));
+    let rust = || elapsed(|| look_up(rust_relocation_from_raw, types));
     time(name, types.len(), port, rust);
 }
 
@@ -90,8 +94,8 @@ fn look_up<T>(function: extern "C" fn(u32) -> T, types: &[u32]) {
 }
 
 fn time_plt(name: &str, pairs: &[(u64, u64)]) {
-    let port = || write_entries(port::jitamoro_write_plt_entry, pairs);
-    let rust = || write_entries(rust_write_plt_entry, pairs);
+    let port = || elapsed(|| write_entries(port::jitamoro_write_plt_entry, pairs));
+    let rust = || elapsed(|| write_entries(rust_write_plt_entry, pairs));
     time(name, pairs.len(), port, rust);
 }
 
@@ -107,8 +111,8 @@ fn write_entries(function: WritePltEntry, pairs: &[(u64, u64)]) {
 
 fn time_padding(length: usize) {
     let calls = INPUTS / (1 + length / 64);
-    let port = || fill(port::jitamoro_fill_section_padding, length, calls);
-    let rust = || fill(rust_fill_section_padding, length, calls);
+    let port = || elapsed(|| fill(port::jitamoro_fill_section_padding, length, calls));
+    let rust = || elapsed(|| fill(rust_fill_section_padding, length, calls));
     time(&format!("padding, {length} bytes"), calls, port, rust);
 }
 
@@ -124,30 +128,42 @@ fn fill(function: FillSectionPadding, length: usize, calls: usize) {
     }
 }
 
-fn time(name: &str, calls: usize, port: impl Fn(), rust: impl Fn()) {
+fn time(name: &str, calls: usize, port: impl Fn() -> Duration, rust: impl Fn() -> Duration) {
+    time_pair(name, ["port", "Rust"], calls, port, rust);
+}
+
+/// Prints the ns a call of two passes and their ratio.
+fn time_pair(
+    name: &str,
+    [a, b]: [&str; 2],
+    calls: usize,
+    pass_a: impl Fn() -> Duration,
+    pass_b: impl Fn() -> Duration,
+) {
+    let per_call = |time: Duration| time.as_nanos() as f64 / calls as f64;
     let figures = (0..ROUNDS).map(|round| {
         // Each goes first in every second round.
-        let (port, rust) = if round % 2 == 0 {
-            let port = nanoseconds(calls, &port);
-            (port, nanoseconds(calls, &rust))
+        let (a, b) = if round % 2 == 0 {
+            let a = per_call(pass_a());
+            (a, per_call(pass_b()))
         } else {
-            let rust = nanoseconds(calls, &rust);
-            (nanoseconds(calls, &port), rust)
+            let b = per_call(pass_b());
+            (per_call(pass_a()), b)
         };
-        [port, rust, port / rust]
+        [a, b, a / b]
     });
     let figures: Vec<_> = figures.collect();
-    let [port, rust, ratio] = [0, 1, 2].map(|which| {
+    let [of_a, of_b, ratio] = [0, 1, 2].map(|which| {
         let mut column: Vec<f64> = figures.iter().map(|row| row[which]).collect();
         column.sort_by(f64::total_cmp);
         let [low, middle, high] = [0, ROUNDS / 2, ROUNDS - 1].map(|place| column[place]);
         format!("{middle:.2} ({low:.2}..{high:.2})")
     });
-    println!("{name:<22} port {port:<24} Rust {rust:<24} port/Rust {ratio}");
+    println!("{name:<31} {a} {of_a:<24} {b} {of_b:<24} {a}/{b} {ratio}");
 }
 
-fn nanoseconds(calls: usize, pass: impl Fn()) -> f64 {
+fn elapsed(pass: impl FnOnce()) -> Duration {
     let start = Instant::now();
     pass();
-    start.elapsed().as_nanos() as f64 / calls as f64
+    start.elapsed()
 }

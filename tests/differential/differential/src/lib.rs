@@ -7,6 +7,9 @@ use libwild::oracle::RelocationSize;
 use std::panic;
 use std::panic::AssertUnwindSafe;
 
+pub mod relaxation;
+pub mod sequences;
+
 /// The types that document 01 says the lookup knows.
 pub const KNOWN_TYPES: [u32; 39] = [
     0, 1, 2, 3, 4, 9, 10, 11, 12, 13, 14, 15, 17, 19, 20, 21, 22, 23, 24, 25, 26, 27, 29, 31, 32,

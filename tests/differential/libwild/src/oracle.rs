@@ -1,16 +1,21 @@
 //! What may be asked of wild: its own functions under its own names, with document 01's numbers
-//! for output kinds and flags, since wild's types are private to its crate. Choosing, rewriting
-//! and relaxing aren't here yet.
+//! for output kinds and flags, since wild's types are private to its crate.
 
 use crate::args::RelocationModel::Fixed;
 use crate::args::RelocationModel::PositionIndependent;
+use crate::elf_x86_64;
 use crate::elf_x86_64::ElfX86_64;
 use crate::output_kind;
 use crate::platform::Arch;
+use crate::platform::Relaxation as _;
 use crate::value_flags;
 use object::elf::RelocationType;
 use object::elf::SHF_EXECINSTR;
 use object::elf::SectionFlags;
+use std::any::type_name;
+use std::any::type_name_of_val;
+use std::fmt::Debug;
+use std::mem::transmute_copy;
 
 pub use crate::error::Result;
 pub use linker_utils::elf::AllowedRange;
@@ -18,9 +23,11 @@ pub use linker_utils::elf::DynamicRelocationKind;
 pub use linker_utils::elf::RelocationKind;
 pub use linker_utils::elf::RelocationKindInfo;
 pub use linker_utils::elf::RelocationSize;
+pub use linker_utils::relaxation::RelocationModifier;
+pub use linker_utils::x86_64::RelaxationKind;
 
 #[inline]
-pub fn relocation_from_raw(r_type: u32) -> Option<RelocationKindInfo> {
+pub const fn relocation_from_raw(r_type: u32) -> Option<RelocationKindInfo> {
     linker_utils::x86_64::relocation_from_raw(RelocationType(r_type))
 }
 
@@ -36,6 +43,77 @@ pub fn write_plt_entry(plt_entry: &mut [u8], got_address: u64, plt_address: u64)
 #[inline]
 pub fn fill_section_padding(buf: &mut [u8], executable: bool) {
     ElfX86_64::fill_section_padding(buf, section_flags(executable));
+}
+
+/// Wild's choice. The arguments left out are those that it doesn't look at on x86-64.
+#[allow(clippy::too_many_arguments)]
+#[inline]
+pub fn new_relaxation(
+    r_type: u32,
+    section_bytes: &[u8],
+    offset_in_section: u64,
+    flags: ValueFlags,
+    output_kind: OutputKind,
+    executable: bool,
+    sym_addr: u64,
+    rel_addend: i64,
+) -> Option<Relaxation> {
+    let choice = ElfX86_64::new_relaxation(
+        RelocationType(r_type),
+        section_bytes,
+        offset_in_section,
+        flags.0,
+        output_kind.0,
+        section_flags(executable),
+        None,
+        sym_addr,
+        0,
+        rel_addend,
+        None,
+    );
+    choice.map(Relaxation)
+}
+
+pub struct Relaxation(elf_x86_64::Relaxation);
+
+impl Relaxation {
+    /// Wild's own kind, which it hands out only as something to print.
+    #[inline]
+    pub fn kind(&self) -> RelaxationKind {
+        let kind = self.0.debug_kind();
+        assert!(type_name_of_val(&kind) == type_name::<&RelaxationKind>());
+        // SAFETY: the name says that it is a reference to the kind.
+        *unsafe { transmute_copy::<_, &RelaxationKind>(&kind) }
+    }
+
+    pub fn debug_kind(&self) -> impl Debug {
+        self.0.debug_kind()
+    }
+
+    #[inline]
+    pub fn rel_info(&self) -> RelocationKindInfo {
+        self.0.rel_info()
+    }
+
+    #[inline]
+    pub fn next_modifier(&self) -> RelocationModifier {
+        self.0.next_modifier()
+    }
+
+    #[inline]
+    pub fn is_mandatory(&self) -> bool {
+        self.0.is_mandatory()
+    }
+
+    #[inline]
+    pub fn needs_got_fallback(&self) -> bool {
+        self.0.needs_got_fallback()
+    }
+
+    #[inline]
+    pub fn apply(&self, section_bytes: &mut [u8], offset_in_section: &mut u64, addend: &mut i64) {
+        self.0.apply(section_bytes, offset_in_section, addend);
+    }
 }
 
 fn section_flags(executable: bool) -> SectionFlags {

@@ -1,5 +1,5 @@
-//! Stubs of wild's other modules: just enough for its unchanged files to compile. No answer that is
-//! compared comes from here.
+//! Stubs of wild's other modules: just enough for its unchanged files to compile. Of these only
+//! `RelocationModel` gets into an answer that is compared.
 
 pub(crate) trait FileSystem {}
 

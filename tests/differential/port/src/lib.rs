@@ -37,6 +37,35 @@ pub struct RelocationAnswer {
     pub max: i64,
 }
 
+#[derive(Debug, Default, Clone, Copy, PartialEq, Eq)]
+#[repr(C)]
+pub struct ChoiceAnswer {
+    pub refusal: u8,
+    pub chosen: bool,
+    pub kind: u8,
+    pub inst_offset: u8,
+    pub mandatory: bool,
+    pub skip_next: bool,
+    pub needs_got_fallback: bool,
+    pub new_type: u32,
+}
+
+#[derive(Debug, Default, Clone, Copy, PartialEq, Eq)]
+#[repr(C)]
+pub struct MovedAnswer {
+    pub refusal: u8,
+    pub offset: u64,
+    pub addend: i64,
+}
+
+#[derive(Debug, Default, Clone, Copy, PartialEq, Eq)]
+#[repr(C)]
+pub struct RelaxedAnswer {
+    pub choice: ChoiceAnswer,
+    pub offset: u64,
+    pub addend: i64,
+}
+
 // Not bundled: the library is needed only where one of these functions is called.
 #[link(name = "jitamoro", kind = "static", modifiers = "-bundle")]
 unsafe extern "C" {
@@ -63,6 +92,45 @@ unsafe extern "C" {
     /// # Safety
     /// `buf` is valid for reads and writes of `len` bytes.
     pub fn jitamoro_fill_section_padding(buf: *mut u8, len: usize, executable: bool);
+
+    /// # Safety
+    /// `section` is valid for reads of `len` bytes.
+    pub fn jitamoro_new_relaxation(
+        r_type: u32,
+        section: *const u8,
+        len: usize,
+        offset: u64,
+        flags: u8,
+        output_kind: u8,
+        executable: bool,
+        address: u64,
+        addend: i64,
+    ) -> ChoiceAnswer;
+
+    /// # Safety
+    /// `section` is valid for reads and writes of `len` bytes.
+    pub fn jitamoro_apply(
+        kind: u8,
+        inst_offset: u8,
+        section: *mut u8,
+        len: usize,
+        offset: u64,
+        addend: i64,
+    ) -> MovedAnswer;
+
+    /// # Safety
+    /// `section` is valid for reads and writes of `len` bytes.
+    pub fn jitamoro_relax(
+        r_type: u32,
+        section: *mut u8,
+        len: usize,
+        offset: u64,
+        flags: u8,
+        output_kind: u8,
+        executable: bool,
+        address: u64,
+        addend: i64,
+    ) -> RelaxedAnswer;
 }
 
 pub fn write_plt_entry(plt_entry: &mut [u8], got_address: u64, plt_address: u64) -> u8 {
@@ -74,4 +142,76 @@ pub fn write_plt_entry(plt_entry: &mut [u8], got_address: u64, plt_address: u64)
 pub fn fill_section_padding(buf: &mut [u8], executable: bool) {
     // SAFETY: a slice lent by its pointer and length.
     unsafe { jitamoro_fill_section_padding(buf.as_mut_ptr(), buf.len(), executable) }
+}
+
+/// The section is lent for writing so that the caller can see that nothing is written.
+#[allow(clippy::too_many_arguments)]
+#[inline]
+pub fn new_relaxation(
+    r_type: u32,
+    section: &mut [u8],
+    offset: u64,
+    flags: u8,
+    output_kind: u8,
+    executable: bool,
+    address: u64,
+    addend: i64,
+) -> ChoiceAnswer {
+    let (start, len) = (section.as_mut_ptr(), section.len());
+    // SAFETY: a slice lent by its pointer and length.
+    unsafe {
+        jitamoro_new_relaxation(
+            r_type,
+            start,
+            len,
+            offset,
+            flags,
+            output_kind,
+            executable,
+            address,
+            addend,
+        )
+    }
+}
+
+#[inline]
+pub fn apply(
+    kind: u8,
+    inst_offset: u8,
+    section: &mut [u8],
+    offset: u64,
+    addend: i64,
+) -> MovedAnswer {
+    let (start, len) = (section.as_mut_ptr(), section.len());
+    // SAFETY: a slice lent by its pointer and length.
+    unsafe { jitamoro_apply(kind, inst_offset, start, len, offset, addend) }
+}
+
+#[allow(clippy::too_many_arguments)]
+#[inline]
+pub fn relax(
+    r_type: u32,
+    section: &mut [u8],
+    offset: u64,
+    flags: u8,
+    output_kind: u8,
+    executable: bool,
+    address: u64,
+    addend: i64,
+) -> RelaxedAnswer {
+    let (start, len) = (section.as_mut_ptr(), section.len());
+    // SAFETY: a slice lent by its pointer and length.
+    unsafe {
+        jitamoro_relax(
+            r_type,
+            start,
+            len,
+            offset,
+            flags,
+            output_kind,
+            executable,
+            address,
+            addend,
+        )
+    }
 }

@@ -1,5 +1,11 @@
-//! Compares every answer and every byte of the port with those of wild's Rust.
-//! The seed may be given as the first word. A comparison is one input with all of its answer.
+//! Compares every answer and every byte of the port with those of wild's Rust:
+//! `differential [SEED [RECORDS]]`, with as many relocation records at random.
+//! A comparison is one input with all of its answer.
+
+mod long_sections;
+mod random_records;
+mod relaxing;
+mod tally;
 
 use differential::DYNAMIC_KINDS;
 use differential::KNOWN_TYPES;
@@ -14,50 +20,42 @@ use port::RelocationAnswer;
 use port::ValueFlagsAnswer;
 use std::fmt::Debug;
 use std::process::ExitCode;
+use tally::Tally;
 
 const DEFAULT_SEED: u64 = 1;
+const DEFAULT_RECORDS: u64 = 50_000_000;
 /// Differences that are printed; the others are only counted.
 const PRINTED: u64 = 10;
 /// Bytes before and after a lent part, which no call may change.
 const GUARD: usize = 16;
 
 fn main() -> ExitCode {
-    let seed = match std::env::args().nth(1).map(|word| word.parse()) {
-        None => DEFAULT_SEED,
-        Some(Ok(seed)) => seed,
-        Some(Err(_)) => {
-            eprintln!("differential: the seed is a decimal number of 64 bits");
+    let words: Result<Vec<u64>, _> = std::env::args().skip(1).map(|word| word.parse()).collect();
+    let (seed, records) = match words.as_deref() {
+        Ok([]) => (DEFAULT_SEED, DEFAULT_RECORDS),
+        Ok(&[seed]) => (seed, DEFAULT_RECORDS),
+        Ok(&[seed, records]) => (seed, records),
+        _ => {
+            eprintln!("differential: at most two decimal numbers of 64 bits: SEED and RECORDS");
             return ExitCode::from(2);
         }
     };
-    println!("differential: seed {seed}");
+    println!("differential: seed {seed}, {records} records at random");
     differential::silence_wild_panics();
-
-    type Part = fn(&mut Comparison);
-    let parts: [(&str, Part); 7] = [
-        ("lookup", Comparison::lookup),
-        ("contains", Comparison::contains),
-        ("dynamic types", Comparison::dynamic_types),
-        ("output kinds", Comparison::output_kinds),
-        ("value flags", Comparison::value_flags),
-        ("PLT", Comparison::plt),
-        ("padding", Comparison::padding),
-    ];
     let mut comparison = Comparison {
         random: Random::new(seed),
+        records,
         count: 0,
         differences: 0,
+        tally: Tally::default(),
     };
-    for (name, part) in parts {
-        let before = comparison.count;
-        part(&mut comparison);
-        println!("{name}: {} comparisons", comparison.count - before);
-    }
+    comparison.run_parts();
+    let unseen = comparison.tally.print();
     println!(
         "differential: {} comparisons, {} differences",
         comparison.count, comparison.differences
     );
-    if comparison.differences == 0 {
+    if comparison.differences == 0 && unseen == 0 {
         ExitCode::SUCCESS
     } else {
         ExitCode::FAILURE
@@ -66,11 +64,37 @@ fn main() -> ExitCode {
 
 struct Comparison {
     random: Random,
+    /// How many records are made at random.
+    records: u64,
     count: u64,
     differences: u64,
+    tally: Tally,
 }
 
 impl Comparison {
+    fn run_parts(&mut self) {
+        type Part = fn(&mut Comparison);
+        let parts: [(&str, Part); 12] = [
+            ("lookup", Self::lookup),
+            ("contains", Self::contains),
+            ("dynamic types", Self::dynamic_types),
+            ("output kinds", Self::output_kinds),
+            ("value flags", Self::value_flags),
+            ("PLT", Self::plt),
+            ("padding", Self::padding),
+            ("choosing", Self::choosing),
+            ("rewriting", Self::rewriting),
+            ("relaxing", Self::relaxing),
+            ("long sections", Self::long_sections),
+            ("records at random", Self::random_records),
+        ];
+        for (name, part) in parts {
+            let before = self.count;
+            part(self);
+            println!("{name}: {} comparisons", self.count - before);
+        }
+    }
+
     fn compare<T: PartialEq + Debug>(&mut self, port: T, rust: T, input: impl FnOnce() -> String) {
         self.count += 1;
         if port != rust {

@@ -1,6 +1,9 @@
 //! Writes a sample of wild's answers, for the port's replay program to check where the Rust isn't
 //! at hand: a line for each record of 40 bytes in hex. A record's first byte says what it is, its
-//! fields follow without gaps, numbers low byte first, and zeros fill the rest.
+//! fields follow without gaps, numbers low byte first, and zeros fill the rest. With the word
+//! `relax` it writes the other list, of choosing, rewriting and relaxing.
+
+mod relax;
 
 use differential::DYNAMIC_KINDS;
 use differential::KNOWN_TYPES;
@@ -10,14 +13,28 @@ use differential::byte_size;
 use differential::kind_number;
 use libwild::oracle;
 use libwild::oracle::AllowedRange;
+use std::process::ExitCode;
 
 const SEED: u64 = 1;
 const RECORD_LENGTH: usize = 40;
 /// What a buffer holds before a call.
 const BEFORE: u8 = 0xa5;
 
-fn main() {
+fn main() -> ExitCode {
     differential::silence_wild_panics();
+    let words: Vec<String> = std::env::args().skip(1).collect();
+    match words.iter().map(String::as_str).collect::<Vec<_>>()[..] {
+        [] => below(),
+        ["relax"] => relax::write(),
+        _ => {
+            eprintln!("replay_list: no word, or `relax`");
+            return ExitCode::from(2);
+        }
+    }
+    ExitCode::SUCCESS
+}
+
+fn below() {
     let mut random = Random::new(SEED);
     (0..6).for_each(output_kind);
     (0..16).for_each(value_flags);

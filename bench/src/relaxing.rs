@@ -1,0 +1,364 @@
+//! Times choosing, rewriting and relaxing. Every record has bytes of its own; all are put back
+//! before each pass, outside the time.
+
+use crate::elapsed;
+use crate::time;
+use crate::time_pair;
+use differential::Random;
+use differential::relaxation;
+use differential::relaxation::KIND_NAMES;
+use differential::relaxation::REX_ADD_TO_LEA;
+use differential::relaxation::Record;
+use differential::relaxation::SECTION_LIMIT;
+use differential::sequences::SEQUENCES;
+use differential::sequences::Sequence;
+use libwild::oracle;
+use libwild::oracle::OutputKind;
+use libwild::oracle::Relaxation;
+use libwild::oracle::RelaxationKind;
+use libwild::oracle::RelocationKind;
+use libwild::oracle::RelocationModifier;
+use libwild::oracle::ValueFlags;
+use port::MovedAnswer;
+use std::cell::RefCell;
+use std::hint::black_box;
+use std::slice;
+use std::time::Duration;
+
+/// Records of a pass: too many for a CPU to learn their order, few enough for its cache.
+const RECORDS: usize = 1 << 13;
+/// Passes of a round.
+const PASSES: usize = 16;
+/// The bytes of a record, and where its offset stands in them.
+const SHARE: usize = 64;
+const OFFSET: usize = 24;
+
+/// Choosing, where `P` is `*const u8`, or relaxing, where it is `*mut u8`.
+type Ask<P, T> = unsafe extern "C" fn(u32, P, usize, u64, u8, u8, bool, u64, i64) -> T;
+type Apply<T> = unsafe extern "C" fn(u8, u8, *mut u8, usize, u64, i64) -> T;
+
+/// The port's fields from wild. Two stay as wild has them: the kind with its instruction offset,
+/// and for the new type the kind of its row.
+#[repr(C)]
+struct RustChoice {
+    chosen: bool,
+    kind: RelaxationKind,
+    mandatory: bool,
+    skip_next: bool,
+    needs_got_fallback: bool,
+    row: RelocationKind,
+}
+
+#[repr(C)]
+struct RustRelaxed {
+    choice: RustChoice,
+    offset: u64,
+    addend: i64,
+}
+
+const NONE: RustChoice = RustChoice {
+    chosen: false,
+    kind: RelaxationKind::NoOp,
+    mandatory: false,
+    skip_next: false,
+    needs_got_fallback: false,
+    row: RelocationKind::None,
+};
+
+impl From<&Relaxation> for RustChoice {
+    #[inline(always)]
+    fn from(it: &Relaxation) -> Self {
+        Self {
+            chosen: true,
+            kind: it.kind(),
+            mandatory: it.is_mandatory(),
+            skip_next: it.next_modifier() == RelocationModifier::SkipNextRelocation,
+            needs_got_fallback: it.needs_got_fallback(),
+            row: it.rel_info().kind,
+        }
+    }
+}
+
+// Wild's functions behind the port's calls.
+
+#[allow(improper_ctypes_definitions)]
+#[inline(never)]
+unsafe extern "C" fn rust_new_relaxation(
+    r_type: u32,
+    start: *const u8,
+    len: usize,
+    offset: u64,
+    flags: u8,
+    output_kind: u8,
+    executable: bool,
+    address: u64,
+    addend: i64,
+) -> RustChoice {
+    // SAFETY: the driver lends a whole section.
+    let section = unsafe { slice::from_raw_parts(start, len) };
+    let flags = ValueFlags::from_number(flags).unwrap();
+    let kind = OutputKind::from_number(output_kind).unwrap();
+    oracle::new_relaxation(
+        r_type, section, offset, flags, kind, executable, address, addend,
+    )
+    .map_or(NONE, |relaxation| RustChoice::from(&relaxation))
+}
+
+#[allow(improper_ctypes_definitions)]
+#[inline(never)]
+unsafe extern "C" fn rust_relax(
+    r_type: u32,
+    start: *mut u8,
+    len: usize,
+    mut offset: u64,
+    flags: u8,
+    output_kind: u8,
+    executable: bool,
+    address: u64,
+    mut addend: i64,
+) -> RustRelaxed {
+    // SAFETY: the driver lends a whole section.
+    let section = unsafe { slice::from_raw_parts_mut(start, len) };
+    let flags = ValueFlags::from_number(flags).unwrap();
+    let kind = OutputKind::from_number(output_kind).unwrap();
+    let relaxation = oracle::new_relaxation(
+        r_type, section, offset, flags, kind, executable, address, addend,
+    );
+    let Some(relaxation) = relaxation else {
+        return RustRelaxed {
+            choice: NONE,
+            offset: 0,
+            addend: 0,
+        };
+    };
+    relaxation.apply(section, &mut offset, &mut addend);
+    RustRelaxed {
+        choice: RustChoice::from(&relaxation),
+        offset,
+        addend,
+    }
+}
+
+#[inline(never)]
+unsafe extern "C" fn rust_apply(
+    kind: u8,
+    inst_offset: u8,
+    start: *mut u8,
+    len: usize,
+    mut offset: u64,
+    mut addend: i64,
+) -> MovedAnswer {
+    // SAFETY: the driver lends a whole section.
+    let section = unsafe { slice::from_raw_parts_mut(start, len) };
+    let kind = relaxation::relaxation_kind(kind, inst_offset).unwrap();
+    kind.apply(section, &mut offset, &mut addend);
+    MovedAnswer {
+        refusal: 0,
+        offset,
+        addend,
+    }
+}
+
+/// A sequence, a record of it, and the kind with the instruction offset that wild chooses for it.
+#[derive(Clone, Copy)]
+struct Case {
+    sequence: &'static Sequence,
+    record: Record,
+    chosen: Option<(u8, u8)>,
+}
+
+/// Every sequence with every flag number and output kind.
+fn cases() -> Vec<Case> {
+    let mut cases = Vec::new();
+    for sequence in &SEQUENCES {
+        let mut section = [0; SHARE];
+        sequence.write(&mut section, OFFSET);
+        for (flags, output_kind) in (0..16).flat_map(|f| (0..6).map(move |k| (f, k))) {
+            let mut record = sequence.record(OFFSET);
+            record.flags = flags;
+            record.output_kind = output_kind;
+            let answer = relaxation::choose(&record, &section);
+            let chosen = answer.chosen.then_some((answer.kind, answer.inst_offset));
+            cases.push(Case {
+                sequence,
+                record,
+                chosen,
+            });
+        }
+    }
+    cases
+}
+
+/// Records with their sections: each in a short one of its own, or all in one of the greatest
+/// length.
+struct Pool {
+    bytes: Vec<u8>,
+    /// Where the records' bytes begin, and what they hold before a pass.
+    first: usize,
+    before: Vec<u8>,
+    inputs: Vec<Input>,
+}
+
+struct Input {
+    start: usize,
+    length: usize,
+    record: Record,
+    kind: (u8, u8),
+}
+
+impl Pool {
+    fn short(cases: &[Case]) -> Self {
+        let place = |record: usize| (record * SHARE, SHARE, OFFSET);
+        Self::new(cases, cases.len() * SHARE, 0, place)
+    }
+
+    fn long(cases: &[Case]) -> Self {
+        let first = SECTION_LIMIT / 2;
+        let place = |record: usize| (0, SECTION_LIMIT, first + record * SHARE + OFFSET);
+        Self::new(cases, SECTION_LIMIT, first, place)
+    }
+
+    /// `place` gives a record's section, by its start and length, and the offset in it.
+    fn new(
+        cases: &[Case],
+        length: usize,
+        first: usize,
+        place: impl Fn(usize) -> (usize, usize, usize),
+    ) -> Self {
+        let mut before = vec![0; cases.len() * SHARE];
+        let mut inputs = Vec::new();
+        for (share, case) in before.chunks_mut(SHARE).zip(cases) {
+            case.sequence.write(share, OFFSET);
+            let (start, length, offset) = place(inputs.len());
+            let mut record = case.record;
+            record.offset = offset as u64;
+            inputs.push(Input {
+                start,
+                length,
+                record,
+                kind: case.chosen.unwrap_or_default(),
+            });
+        }
+        Self {
+            bytes: vec![0; length],
+            first,
+            before,
+            inputs,
+        }
+    }
+
+    /// The time of the calls alone.
+    fn run(&mut self, call: impl Fn(&Input, *mut u8)) -> Duration {
+        let shares = self.first..self.first + self.before.len();
+        let pass = |_| {
+            self.bytes[shares.clone()].copy_from_slice(&self.before);
+            let bytes = self.bytes.as_mut_ptr();
+            let time = elapsed(|| {
+                for input in &self.inputs {
+                    // SAFETY: the section starts inside the bytes.
+                    call(input, unsafe { bytes.add(input.start) });
+                }
+            });
+            black_box(&mut self.bytes);
+            time
+        };
+        (0..PASSES).map(pass).sum()
+    }
+}
+
+fn ask_all<P, T>(
+    function: Ask<P, T>,
+    pointer: impl Fn(*mut u8) -> P,
+    pool: &RefCell<Pool>,
+) -> Duration {
+    let function = black_box(function);
+    pool.borrow_mut().run(|input, section| {
+        let it = &input.record;
+        // SAFETY: a whole section, by its pointer and length.
+        black_box(&unsafe {
+            function(
+                it.r_type,
+                pointer(section),
+                input.length,
+                it.offset,
+                it.flags,
+                it.output_kind,
+                it.executable,
+                it.address,
+                it.addend,
+            )
+        });
+    })
+}
+
+fn choose_all<T>(function: Ask<*const u8, T>, pool: &RefCell<Pool>) -> Duration {
+    ask_all(function, |section| section.cast_const(), pool)
+}
+
+fn relax_all<T>(function: Ask<*mut u8, T>, pool: &RefCell<Pool>) -> Duration {
+    ask_all(function, |section| section, pool)
+}
+
+fn apply_all<T>(function: Apply<T>, pool: &RefCell<Pool>) -> Duration {
+    let function = black_box(function);
+    pool.borrow_mut().run(|input, section| {
+        let (kind, inst_offset) = input.kind;
+        let (offset, addend) = (input.record.offset, input.record.addend);
+        // SAFETY: a whole section, by its pointer and length.
+        black_box(&unsafe { function(kind, inst_offset, section, input.length, offset, addend) });
+    })
+}
+
+fn time_relax(name: &str, pool: &RefCell<Pool>) {
+    let port = || relax_all(port::jitamoro_relax, pool);
+    let rust = || relax_all(rust_relax, pool);
+    time(name, RECORDS * PASSES, port, rust);
+}
+
+pub fn time_all(random: &mut Random) {
+    let cases = cases();
+    let mut pick = |from: &[Case]| from[random.word() as usize % from.len()];
+    let mut kinds: Vec<Vec<Case>> = Vec::new();
+    for kind in (0..KIND_NAMES.len() as u8).filter(|&kind| kind != REX_ADD_TO_LEA) {
+        let is_it = |case: &&Case| case.chosen.is_some_and(|(chosen, _)| chosen == kind);
+        kinds.push(cases.iter().filter(is_it).copied().collect());
+        let of_kind: Vec<Case> = (0..RECORDS).map(|_| pick(kinds.last().unwrap())).collect();
+        let name = format!("relax, {}", KIND_NAMES[usize::from(kind)]);
+        time_relax(&name, &RefCell::new(Pool::short(&of_kind)));
+    }
+    let nothing: Vec<Case> = cases
+        .into_iter()
+        .filter(|case| case.chosen.is_none())
+        .collect();
+    let none: Vec<Case> = (0..RECORDS).map(|_| pick(&nothing)).collect();
+    time_relax("relax, none", &RefCell::new(Pool::short(&none)));
+
+    let kind_at = |place: usize| &kinds[place % kinds.len()];
+    let mut mix: Vec<Case> = (0..RECORDS).map(|place| pick(kind_at(place))).collect();
+    shuffle(&mut mix, random);
+    time_mix(&mix);
+}
+
+fn shuffle(cases: &mut [Case], random: &mut Random) {
+    for end in (1..cases.len()).rev() {
+        cases.swap(end, random.word() as usize % (end + 1));
+    }
+}
+
+fn time_mix(mix: &[Case]) {
+    let calls = RECORDS * PASSES;
+    let short = &RefCell::new(Pool::short(mix));
+    time_relax("relax, mix of kinds", short);
+    let port = || choose_all(port::jitamoro_new_relaxation, short);
+    let rust = || choose_all(rust_new_relaxation, short);
+    time("choose, mix of kinds", calls, port, rust);
+    let port = || apply_all(port::jitamoro_apply, short);
+    let rust = || apply_all(rust_apply, short);
+    time("apply, mix of kinds", calls, port, rust);
+    let long = &RefCell::new(Pool::long(mix));
+    time_relax("relax, mix, 256 MiB section", long);
+    let of_long = || relax_all(port::jitamoro_relax, long);
+    let of_short = || relax_all(port::jitamoro_relax, short);
+    let names = ["256 MiB", "64 B"];
+    time_pair("relax, mix, port alone", names, calls, of_long, of_short);
+}

@@ -1,0 +1,160 @@
+//! Sections of the greatest length and of one byte more. All zeros but about the offset, where the
+//! bytes are compared after each call; all others are looked at once for each offset.
+
+use crate::Comparison;
+use crate::GUARD;
+use crate::relaxing;
+use differential::around;
+use differential::relaxation;
+use differential::relaxation::Record;
+use differential::relaxation::SECTION_LIMIT;
+use differential::sequences::SEQUENCES;
+use std::fmt::Debug;
+use std::ops::Range;
+
+/// Bytes on each side of an offset that are compared after each call.
+const NEAR: usize = 32;
+const FLAGS_AND_KINDS: [(u8, u8); 8] = [
+    (0, 3),
+    (1, 0),
+    (1, 4),
+    (3, 1),
+    (9, 0),
+    (16, 0),
+    (1, 6),
+    (255, 255),
+];
+
+struct Long {
+    bytes: Vec<u8>,
+    length: usize,
+    near: Range<usize>,
+}
+
+impl Long {
+    fn lent_mut(&mut self) -> &mut [u8] {
+        &mut self.bytes[GUARD..GUARD + self.length]
+    }
+
+    /// Stands at an offset, or at the end where it is past.
+    fn stand_at(&mut self, offset: u64) {
+        let place = GUARD + self.length.min(usize::try_from(offset).unwrap());
+        let end = (place + NEAR).min(self.bytes.len());
+        self.near = place.saturating_sub(NEAR)..end;
+    }
+
+    /// What a call answers, and the bytes that it leaves, which are then as they were.
+    fn ask<T>(&mut self, call: impl FnOnce(&mut [u8]) -> T) -> (T, [u8; 2 * NEAR]) {
+        let before = self.near();
+        let answer = call(self.lent_mut());
+        let after = self.near();
+        let near = self.near.clone();
+        let length = near.len();
+        self.bytes[near].copy_from_slice(&before[..length]);
+        (answer, after)
+    }
+
+    fn near(&self) -> [u8; 2 * NEAR] {
+        let mut near = [0; 2 * NEAR];
+        near[..self.near.len()].copy_from_slice(&self.bytes[self.near.clone()]);
+        near
+    }
+
+    fn clear(&mut self) {
+        self.bytes[self.near.clone()].fill(0);
+    }
+
+    /// Where something else than 0 stands.
+    fn written(&self) -> Option<usize> {
+        let mut parts = self.bytes.chunks(4096);
+        let part = parts.position(|part| *part != [0; 4096][..part.len()])?;
+        let bytes = &self.bytes[part * 4096..];
+        let place = bytes.iter().position(|&byte| byte != 0).unwrap();
+        Some(part * 4096 + place)
+    }
+}
+
+impl Comparison {
+    pub fn long_sections(&mut self) {
+        let mut long = Long {
+            bytes: vec![0; GUARD + SECTION_LIMIT + 1 + GUARD],
+            length: 0,
+            near: 0..0,
+        };
+        for length in [SECTION_LIMIT, SECTION_LIMIT + 1] {
+            long.length = length;
+            for offset in offsets(length as u64) {
+                long.stand_at(offset);
+                self.long_records(&mut long, offset);
+                self.long_rewriting(&mut long, offset);
+                if length == SECTION_LIMIT || offset == u64::MAX {
+                    self.compare(long.written(), None, || {
+                        format!("a byte far from {offset:#x} in a section of {length}")
+                    });
+                }
+            }
+        }
+    }
+
+    fn long_records(&mut self, long: &mut Long, offset: u64) {
+        for sequence in &SEQUENCES {
+            let place = offset as usize;
+            sequence.write(long.lent_mut(), place);
+            for (flags, output_kind) in FLAGS_AND_KINDS {
+                let mut record = sequence.record(place);
+                record.flags = flags;
+                record.output_kind = output_kind;
+                self.long_record(long, &record);
+            }
+            long.clear();
+        }
+    }
+
+    fn long_record(&mut self, long: &mut Long, record: &Record) {
+        let rust = long.ask(|section| relaxation::choose(record, section));
+        self.tally.choosing.count_choice(&rust.0);
+        let port = long.ask(|section| relaxing::port_choose(record, section));
+        self.compare_long(long, port, rust, record);
+        let rust = long.ask(|section| relaxation::relax(record, section));
+        self.tally.relaxing.count_choice(&rust.0.choice);
+        let port = long.ask(|section| relaxing::port_relax(record, section));
+        self.compare_long(long, port, rust, record);
+    }
+
+    fn long_rewriting(&mut self, long: &mut Long, offset: u64) {
+        for kind in 0..=19 {
+            for inst_offset in 0..8 {
+                let rust =
+                    long.ask(|it| relaxation::rewrite(kind, inst_offset, it, offset, i64::MIN));
+                let answers = &mut self.tally.rewriting;
+                answers.count_rewriting(rust.0.refusal, kind, inst_offset);
+                let port = long.ask(|it| port::apply(kind, inst_offset, it, offset, i64::MIN));
+                let input = format!("kind {kind}({inst_offset}), offset {offset:#x}");
+                self.compare_long(long, port, rust, &input);
+            }
+        }
+    }
+
+    fn compare_long<T: PartialEq + Debug>(
+        &mut self,
+        long: &Long,
+        port: T,
+        rust: T,
+        input: &impl Debug,
+    ) {
+        self.compare(port, rust, || {
+            let near = &long.bytes[long.near.clone()];
+            format!("section of {}, {input:x?}, near {near:x?}", long.length)
+        });
+    }
+}
+
+/// About both ends, in the midst and past the end.
+fn offsets(length: u64) -> impl Iterator<Item = u64> {
+    let low = 0..24;
+    let midst = [8, 16, 24, 27].into_iter();
+    let midst = midst.flat_map(|bit| around(1 << bit, 1).map(|place| place as u64));
+    let high = length - 24..length + 3;
+    let past = [1 << 31, (1 << 32) + 8, 1 << 63, u64::MAX - 1, u64::MAX];
+    low.chain(midst).chain(high).chain(past)
+}

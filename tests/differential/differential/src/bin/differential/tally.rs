@@ -1,0 +1,87 @@
+//! How often each answer of choosing, rewriting and relaxing was seen.
+
+use differential::relaxation;
+use differential::relaxation::KIND_NAMES;
+use differential::relaxation::REX_ADD_TO_LEA;
+use port::ChoiceAnswer;
+
+/// The answers of one function.
+#[derive(Default)]
+pub struct Answers {
+    none: u64,
+    /// By refusal.
+    refused: [u64; 7],
+    /// By kind and instruction offset.
+    kinds: [[u64; 7]; 19],
+}
+
+#[derive(Default)]
+pub struct Tally {
+    pub choosing: Answers,
+    pub rewriting: Answers,
+    pub relaxing: Answers,
+}
+
+impl Answers {
+    pub fn count_choice(&mut self, choice: &ChoiceAnswer) {
+        if choice.refusal != 0 {
+            self.refused[usize::from(choice.refusal)] += 1;
+        } else if choice.chosen {
+            self.kinds[usize::from(choice.kind)][usize::from(choice.inst_offset)] += 1;
+        } else {
+            self.none += 1;
+        }
+    }
+
+    pub fn count_rewriting(&mut self, refusal: u8, kind: u8, inst_offset: u8) {
+        if refusal != 0 {
+            self.refused[usize::from(refusal)] += 1;
+        } else {
+            let has = relaxation::has_inst_offset(kind);
+            let place = if has { usize::from(inst_offset) } else { 0 };
+            self.kinds[usize::from(kind)][place] += 1;
+        }
+    }
+}
+
+impl Tally {
+    /// Prints how often each answer was seen, and says how many never were.
+    pub fn print(&self) -> usize {
+        let head = ["choosing", "rewriting", "relaxing"];
+        println!("{:<28}{:>12}{:>12}{:>12}", "", head[0], head[1], head[2]);
+        let mut unseen = 0;
+        for (kind, name) in KIND_NAMES.iter().enumerate() {
+            let chosen = kind as u8 != REX_ADD_TO_LEA;
+            for &inst_offset in relaxation::inst_offsets(kind as u8) {
+                let name = match inst_offset {
+                    0 => name.to_string(),
+                    _ => format!("{name}({inst_offset})"),
+                };
+                let count = |it: &Answers| it.kinds[kind][usize::from(inst_offset)];
+                unseen += self.print_row(&name, count, [chosen, true, chosen]);
+            }
+        }
+        unseen += self.print_row("none", |it| it.none, [true, false, true]);
+        for refusal in 1..7 {
+            let given = [refusal < 5, matches!(refusal, 1 | 2 | 5 | 6), refusal != 5];
+            let name = format!("refusal {refusal}");
+            unseen += self.print_row(&name, |it| it.refused[refusal], given);
+        }
+        unseen
+    }
+
+    /// `given` says which of the three functions give this answer.
+    fn print_row(&self, name: &str, count: impl Fn(&Answers) -> u64, given: [bool; 3]) -> usize {
+        let counts = [&self.choosing, &self.rewriting, &self.relaxing].map(count);
+        let [choosing, rewriting, relaxing] = counts;
+        println!("{name:<28}{choosing:>12}{rewriting:>12}{relaxing:>12}");
+        let unseen = counts.iter().zip(given);
+        let unseen = unseen
+            .filter(|&(&count, given)| given && count == 0)
+            .count();
+        if unseen != 0 {
+            println!("differential: {name} was never seen");
+        }
+        unseen
+    }
+}
