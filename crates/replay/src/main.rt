@@ -15,76 +15,27 @@
 use elf::AllowedRange;
 use elf::DynamicRelocationKind;
 use elf_x86_64::PltEntry;
+use hex_lines::byte;
+use hex_lines::more;
+use hex_lines::print_count;
+use hex_lines::u32_at;
+use hex_lines::u64_at;
 use libc::STDIN_FILENO;
-use libc::STDOUT_FILENO;
 use output_kind::OutputKind;
 use output_kind::OutputKindFound;
 use value_flags::ValueFlags;
 use value_flags::ValueFlagsFound;
 use x86_64::RelocationFound;
-ghost use Prim.Native.Nat.{_<_, _≤_};
-ghost use lib.ListN.{length};
-
-// The value of a hexadecimal digit, or 0.
-fn digit(b: u8) -> u8
-    ensures { λ r. ⌜ r < 16 ⌝ }
-{
-    if b < b'0' {
-        0
-    } else if b <= b'9' {
-        b - b'0'
-    } else if b < b'a' {
-        0
-    } else if b <= b'f' {
-        b - b'a' + 10
-    } else {
-        0
-    }
-}
-
-// Byte `at` of a line's record.
-fn byte(line: &[u8; 81], at: usize) -> u8 {
-    if at < 40 {
-        digit(line[2 * at]) * 16 + digit(line[2 * at + 1])
-    } else {
-        0
-    }
-}
-
-fn wide(b: u8) -> u64
-    ensures { λ r. ⌜ r < 256 ⌝ }
-{
-    b as u64
-}
 
 fn flag(b: bool) -> u8 {
     if b { 1 } else { 0 }
 }
 
-// Four bytes from `at` on, low byte first.
-fn u32_at(line: &[u8; 81], at: usize) -> u64
-    requires { ⌜ at < 40 ⌝ }
-    ensures { λ r. ⌜ r < 4294967296 ⌝ }
-{
-    wide(byte(line, at))
-        + wide(byte(line, at + 1)) * 0x100
-        + wide(byte(line, at + 2)) * 0x1_0000
-        + wide(byte(line, at + 3)) * 0x100_0000
-}
-
-fn u64_at(line: &[u8; 81], at: usize) -> u64
-    requires { ⌜ at < 36 ⌝ }
-{
-    u32_at(line, at) + u32_at(line, at + 4) * 0x1_0000_0000
-}
-
-fn i64_at(line: &[u8; 81], at: usize) -> i64
-    requires { ⌜ at < 36 ⌝ }
-{
+fn i64_at(line: &[u8], at: usize) -> i64 {
     elf::as_i64(u64_at(line, at))
 }
 
-fn output_kind_agrees(line: &[u8; 81]) -> bool {
+fn output_kind_agrees(line: &[u8]) -> bool {
     match OutputKind::from_number(byte(line, 1)) {
         OutputKindFound::Is(kind) => {
             (flag(kind.is_executable()) == byte(line, 2))
@@ -96,7 +47,7 @@ fn output_kind_agrees(line: &[u8; 81]) -> bool {
     }
 }
 
-fn value_flags_agree(line: &[u8; 81]) -> bool {
+fn value_flags_agree(line: &[u8]) -> bool {
     match ValueFlags::from_number(byte(line, 1)) {
         ValueFlagsFound::Is(flags) => {
             (flag(flags.is_dynamic()) == byte(line, 2))
@@ -117,8 +68,8 @@ fn range_agrees(range: AllowedRange, min: i64, max: i64) -> bool {
     (min == -0x7fff_ffff_ffff_ffff - 1) & (max == 0x7fff_ffff_ffff_ffff)
 }
 
-fn relocation_agrees(line: &[u8; 81]) -> bool {
-    match x86_64::relocation_from_raw(u32_at(line, 1) as u32) {
+fn relocation_agrees(line: &[u8]) -> bool {
+    match x86_64::relocation_from_raw(u32_at(line, 1)) {
         RelocationFound::Is(info) => {
             let kind = info.kind;
             let range = info.range;
@@ -153,20 +104,13 @@ fn dynamic_type(number: u8) -> u32 {
 }
 
 // Whether the buffer's first 16 bytes are those of the record from `at` on.
-fn buffer_agrees(line: &[u8; 81], at: usize, buffer: &[u8; 64]) -> bool
-    requires { ⌜ at < 40 ⌝ }
-{
-    let mut i = 0;
-    while i < 16 {
-        if byte(line, at + i) != buffer[i] {
-            return false;
-        }
-        i += 1;
-    }
-    true
+fn buffer_agrees(line: &[u8], at: usize, buffer: [u8; 64]) -> bool {
+    let mut expected = [0u8; 16];
+    hex_lines::bytes_at(line, at, &mut expected);
+    check::same(&expected, &buffer[..16])
 }
 
-fn plt_agrees(line: &[u8; 81]) -> bool {
+fn plt_agrees(line: &[u8]) -> bool {
     let mut buffer = [0xa5u8; 64];
     let n = byte(line, 1) as usize;
     if 64 < n {
@@ -177,21 +121,21 @@ fn plt_agrees(line: &[u8; 81]) -> bool {
         PltEntry::Written => 0,
         PltEntry::Refused(number) => number,
     };
-    (refusal == byte(line, 18)) & buffer_agrees(line, 19, &buffer)
+    (refusal == byte(line, 18)) & buffer_agrees(line, 19, buffer)
 }
 
-fn padding_agrees(line: &[u8; 81]) -> bool {
+fn padding_agrees(line: &[u8]) -> bool {
     let mut buffer = [0xa5u8; 64];
     let n = byte(line, 2) as usize;
     if 64 < n {
         return false;
     }
     elf_x86_64::fill_section_padding(&mut buffer[..n], byte(line, 1) == 1);
-    buffer_agrees(line, 3, &buffer)
+    buffer_agrees(line, 3, buffer)
 }
 
-fn contains_agrees(line: &[u8; 81]) -> bool {
-    match x86_64::relocation_from_raw(u32_at(line, 1) as u32) {
+fn contains_agrees(line: &[u8]) -> bool {
+    match x86_64::relocation_from_raw(u32_at(line, 1)) {
         RelocationFound::Is(info) => {
             let range = info.range;
             flag(range.contains(i64_at(line, 5))) == byte(line, 13)
@@ -212,18 +156,14 @@ struct Tally {
     differ: u64,
 }
 
-fn more(count: u64, agrees: bool) -> u64 {
-    std::num::wrapping_add_u64(count, agrees as u64)
-}
-
 // The tally with one record more.
-fn tallied(mut t: Tally, line: &[u8; 81]) -> Tally {
+fn tallied(mut t: Tally, line: &[u8]) -> Tally {
     let tag = byte(line, 0);
     let agrees = match tag {
         1 => output_kind_agrees(line),
         2 => value_flags_agree(line),
         3 => relocation_agrees(line),
-        4 => dynamic_type(byte(line, 1)) as u64 == u32_at(line, 2),
+        4 => dynamic_type(byte(line, 1)) == u32_at(line, 2),
         5 => plt_agrees(line),
         6 => padding_agrees(line),
         7 => contains_agrees(line),
@@ -238,13 +178,6 @@ fn tallied(mut t: Tally, line: &[u8; 81]) -> Tally {
     t.contains = more(t.contains, agrees & (tag == 7));
     t.differ = more(t.differ, !agrees);
     t
-}
-
-fn print_count(name: &[u8], count: u64) {
-    io::write_all(STDOUT_FILENO, name);
-    io::write_all(STDOUT_FILENO, b" ");
-    io::print_decimal(STDOUT_FILENO, count);
-    io::write_all(STDOUT_FILENO, b"\n");
 }
 
 fn print_tally(t: Tally) {

@@ -2,61 +2,16 @@
 // A line has 311 bytes in hexadecimal, numbers low byte first: the instruction's length, its bytes (12, the rest 0), its
 // address, the slot's address and contents (0 where there is none), 16 registers and the flags before, the same after,
 // rip after, and the 8 bytes at rsp - 8 after (A5 in each where nothing is pushed).
+use hex_lines::byte;
+use hex_lines::more;
+use hex_lines::print_count;
+use hex_lines::u64_at;
 use libc::STDIN_FILENO;
-use libc::STDOUT_FILENO;
 use machine_step::Flags;
 ghost use Prim.Native.Nat.{_<_};
 
-// The value of a hexadecimal digit, or 0.
-fn digit(b: u8) -> u8
-    ensures { λ r. ⌜ r < 16 ⌝ }
-{
-    if b < b'0' {
-        0
-    } else if b <= b'9' {
-        b - b'0'
-    } else if b < b'a' {
-        0
-    } else if b <= b'f' {
-        b - b'a' + 10
-    } else {
-        0
-    }
-}
-
-// Byte `at` of a line.
-fn byte(line: &[u8; 623], at: usize) -> u8 {
-    if at < 311 {
-        digit(line[2 * at]) * 16 + digit(line[2 * at + 1])
-    } else {
-        0
-    }
-}
-
-fn wide(b: u8) -> u64
-    ensures { λ r. ⌜ r < 256 ⌝ }
-{
-    b as u64
-}
-
-fn u32_at(line: &[u8; 623], at: usize) -> u64
-    requires { ⌜ at < 320 ⌝ }
-    ensures { λ r. ⌜ r < 4294967296 ⌝ }
-{
-    wide(byte(line, at))
-        + wide(byte(line, at + 1)) * 0x100
-        + wide(byte(line, at + 2)) * 0x1_0000
-        + wide(byte(line, at + 3)) * 0x100_0000
-}
-
-fn u64_at(line: &[u8; 623], at: usize) -> u64
-    requires { ⌜ at < 310 ⌝ }
-{
-    u32_at(line, at) + u32_at(line, at + 4) * 0x1_0000_0000
-}
-
 // The sixteen registers from byte `at` on, and sixteen that are 0.
-fn registers(line: &[u8; 623], at: usize) -> [u64; 32]
+fn registers(line: &[u8], at: usize) -> [u64; 32]
     requires { ⌜ at < 180 ⌝ }
 {
     let mut regs = [0u64; 32];
@@ -68,13 +23,9 @@ fn registers(line: &[u8; 623], at: usize) -> [u64; 32]
     regs
 }
 
-fn instruction(line: &[u8; 623]) -> [u8; 12] {
+fn instruction(line: &[u8]) -> [u8; 12] {
     let mut code = [0u8; 12];
-    let mut i = 0;
-    while i < 12 {
-        code[i] = byte(line, 1 + i);
-        i += 1;
-    }
+    hex_lines::bytes_at(line, 1, &mut code);
     code
 }
 
@@ -110,7 +61,7 @@ fn same_registers(a: &[u64; 32], b: &[u64; 32]) -> bool {
 }
 
 // What the slot's place and contents are, by the line, is what the twin says.
-fn slot_agrees(line: &[u8; 623], code: &[u8]) -> bool {
+fn slot_agrees(line: &[u8], code: &[u8]) -> bool {
     let place = machine_step::slot_place(code, u64_at(line, 13));
     if place.reads {
         return place.at == u64_at(line, 21);
@@ -119,7 +70,7 @@ fn slot_agrees(line: &[u8; 623], code: &[u8]) -> bool {
 }
 
 // Whether the twin steps as the CPU did.
-fn step_agrees(line: &[u8; 623], code: &[u8]) -> bool {
+fn step_agrees(line: &[u8], code: &[u8]) -> bool {
     let before = registers(line, 37);
     let sp = before[4];
     let r = machine_step::step(
@@ -144,7 +95,7 @@ fn step_agrees(line: &[u8; 623], code: &[u8]) -> bool {
 }
 
 // A line agrees where the whole instruction steps as the CPU did, and one byte less of it gives no step.
-fn agrees(line: &[u8; 623]) -> bool {
+fn agrees(line: &[u8]) -> bool {
     let code = instruction(line);
     let n = byte(line, 0) as usize;
     if 12 < n {
@@ -157,17 +108,6 @@ fn agrees(line: &[u8; 623]) -> bool {
     let cut = machine_step::step(&code[..less], 0, 0, [0u64; 32], flags(0));
     let cut_steps = cut.steps;
     !cut_steps & slot_agrees(line, &code[..n]) & step_agrees(line, &code[..n])
-}
-
-fn more(count: u64, agrees: bool) -> u64 {
-    std::num::wrapping_add_u64(count, agrees as u64)
-}
-
-fn print_count(name: &[u8], count: u64) {
-    io::write_all(STDOUT_FILENO, name);
-    io::write_all(STDOUT_FILENO, b" ");
-    io::print_decimal(STDOUT_FILENO, count);
-    io::write_all(STDOUT_FILENO, b"\n");
 }
 
 fn print_counts(all: u64, differ: u64) {

@@ -1,38 +1,13 @@
 // Decodes a list of encodings that llvm-mc made, and prints how many there are and how many decode to something else than they name.
 // A line has 17 bytes in hexadecimal: operation (0 mov, 1 add, 2 sub, 3 cmp, 4 lea), source (0 slot, 1 immediate, 2 address),
 // width (1 is 64 bits), register, length, and the encoding (12 bytes, the rest 0), whose field is 0x11223344.
+use hex_lines::byte;
+use hex_lines::more;
+use hex_lines::print_count;
 use libc::STDIN_FILENO;
-use libc::STDOUT_FILENO;
 use machine_step::Form;
 use machine_step::Op;
 use machine_step::Source;
-ghost use Prim.Native.Nat.{_<_};
-
-// The value of a hexadecimal digit, or 0.
-fn digit(b: u8) -> u8
-    ensures { λ r. ⌜ r < 16 ⌝ }
-{
-    if b < b'0' {
-        0
-    } else if b <= b'9' {
-        b - b'0'
-    } else if b < b'a' {
-        0
-    } else if b <= b'f' {
-        b - b'a' + 10
-    } else {
-        0
-    }
-}
-
-// Byte `at` of a line.
-fn byte(line: &[u8; 35], at: usize) -> u8 {
-    if at < 17 {
-        digit(line[2 * at]) * 16 + digit(line[2 * at + 1])
-    } else {
-        0
-    }
-}
 
 fn source_number(source: Source) -> u8 {
     match source {
@@ -60,7 +35,7 @@ fn op_number(op: Op, source: Source) -> u8 {
 }
 
 // Whether the four bytes after the header are the field, and end the encoding.
-fn field_agrees(line: &[u8; 35], header: u8) -> bool {
+fn field_agrees(line: &[u8], header: u8) -> bool {
     if 8 < header {
         return false;
     }
@@ -72,7 +47,7 @@ fn field_agrees(line: &[u8; 35], header: u8) -> bool {
         & (header + 4 == byte(line, 4))
 }
 
-fn agrees(line: &[u8; 35]) -> bool {
+fn agrees(line: &[u8]) -> bool {
     let form = machine_step::decode(byte(line, 5), byte(line, 6), byte(line, 7), byte(line, 8));
     match form {
         Form::Bad => false,
@@ -98,17 +73,6 @@ fn agrees(line: &[u8; 35]) -> bool {
             header: _,
         } => false,
     }
-}
-
-fn more(count: u64, agrees: bool) -> u64 {
-    std::num::wrapping_add_u64(count, agrees as u64)
-}
-
-fn print_count(name: &[u8], count: u64) {
-    io::write_all(STDOUT_FILENO, name);
-    io::write_all(STDOUT_FILENO, b" ");
-    io::print_decimal(STDOUT_FILENO, count);
-    io::write_all(STDOUT_FILENO, b"\n");
 }
 
 fn print_counts(all: u64, differ: u64) {

@@ -1,29 +1,20 @@
--- `buffer_agrees` is safe and ends: the loop counts to 16.
+-- `buffer_agrees` is safe: the part lent lies within the buffer.
 -- Assumes nothing.
-use Prim.Native.Nat.{_≤_, _-_}
+use mathlib.Core.Path.{sym}
 use native.Mathlib.Omega.{arith}
+use lib.Seq.{length-take-le}
 use borrow.Author.Needs.{needs}
 use Rattle.replay.proofs.buffer_agrees.Statement.{statement}
 use Rattle.replay.proofs.buffer_agrees.Tie as tie
-
-abbrev Inv-loop : tie.InvT-loop
-Inv-loop line at buffer i₀ i = i ≤ 16
-
-abbrev μ-loop : tie.MeasureT-loop
-μ-loop line at buffer i₀ i = 16 - i
 
 pub buffer-agrees-spec : {M : Type 1} → statement M
 buffer-agrees-spec =
     tie.close
     (tie.spec
-    Inv-loop
-    μ-loop
-    (λ c. omega arith)
-    (λ c. omega arith)
+    (λ c. search needs)
     (λ c κs. search needs)
     (λ c. search needs)
     (λ c. search needs)
-    (λ c. omega arith)
-    (λ c. omega arith)
-    (λ c. omega arith)
+    (λ c. sym (length-take-le 16 (c .before .before .before .before .before .before .args .t3) (search needs)))
+    (λ c κs. search needs)
     (λ c. search needs))
