@@ -182,7 +182,7 @@ def numbered(cases):
 
 def padded(text, turn):
     """The code between nops, so that it stands at several offsets."""
-    return "nop\n" * (turn % 5) + text + "\n" + "nop\n" * (turn % 3)
+    return "nop\n" * ((turn + turn // 5) % 5) + text + "\n" + "nop\n" * (turn % 3)
 
 
 def assemble(cases):
