@@ -237,16 +237,16 @@ pub struct ChoiceAnswer {
 // Where the field lies after rewriting, and its addend.
 #[repr(C)]
 pub struct MovedAnswer {
-    pub refusal: u8,
     pub offset: u64,
+    pub refusal: u8,
     pub addend: i64,
 }
 
 // A choice that was carried out, with where the field lies now. Refusals stand in the choice.
 #[repr(C)]
 pub struct RelaxedAnswer {
-    pub choice: ChoiceAnswer,
     pub offset: u64,
+    pub choice: ChoiceAnswer,
     pub addend: i64,
 }
 

@@ -33,6 +33,10 @@ pub and-true : (b : Bool) → (b && true) ≡ b
 and-true true = refl
 and-true false = refl
 
+pub and-assoc : (a b c : Bool) → (a && (b && c)) ≡ (a && b && c)
+and-assoc true b c = refl
+and-assoc false b c = refl
+
 module _ (a b c d : ℕ) (to : a ≡ b → c ≡ d) (from : c ≡ d → a ≡ b) where
   same : (t u : Bool) → eqb a b ≡ t → eqb c d ≡ u → t ≡ u
   same true true p q = refl

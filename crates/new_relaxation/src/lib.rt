@@ -745,23 +745,21 @@ fn tlsdesc_call(q: Asked) -> Choice
 
 // ---- Fixed byte strings, compared
 
-// Whether a part starts with a fixed byte string.
+// Whether a part starts with a fixed byte string. All bytes are compared, with no early end: they
+// become one load.
 fn starts_with(part: &[u8], fixed: &[u8]) -> bool
     ensures { λ r. ⌜ r ≡ startsWith (now (fixed .entry)) (now (part .entry)) ⌝ }
 {
+    if part.len() < fixed.len() {
+        return false;
+    }
+    let mut same = true;
     let mut i = 0;
     while i < fixed.len() {
-        if part.len() <= i {
-            return false;
-        }
-        let same = part[i] == fixed[i];
-        if same {
-            i += 1;
-        } else {
-            return false;
-        }
+        same = same & (part[i] == fixed[i]);
+        i += 1;
     }
-    true
+    same
 }
 
 // The part from a place on, empty past the end.

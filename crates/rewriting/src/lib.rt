@@ -1,15 +1,19 @@
 // x86_64.rs: RelaxationKind::apply.
 ghost use mathlib.Core.Path.{_≡_};
-ghost use Prim.Native.Nat.{_+_, _/_, _%_, _≤_};
-ghost use lib.IntN.{pos};
+ghost use mathlib.Core.Bool.{_||_};
+ghost use mathlib.Core.List.{[], _∷_};
+ghost use Prim.Native.Nat.{_+_, _-_, _/_, _%_, _≤_};
+ghost use lib.Dec.{eqb};
 ghost use lib.ListN.{length};
 ghost use lib.Seq.{sets};
-ghost use Rattle.rules.specs.Kinds.{MovIndirectToLea, MovIndirectToAbsolute, RexAddIndirectToAbsolute, RexAddIndirectToLea, CallIndirectToRelative};
-ghost use Rattle.rules.specs.Kinds.{JmpIndirectToRelative, TlsGdToLocalExec, TlsGdToLocalExecLarge, TlsLdToLocalExec, TlsLdToLocalExecNoPlt};
-ghost use Rattle.rules.specs.Kinds.{TlsLdToLocalExec64, TlsGdToInitialExec, SkipTlsDescCall};
-ghost use Rattle.rules.specs.Rewrite.{rexMoved, rex2Moved, rexCopied, evexMoved, moved, based, evexToAbsolute, rewritten, rewriting, afterRewriting};
+ghost use Rattle.rules.specs.Kinds.{MovIndirectToAbsolute, RexAddIndirectToAbsolute, RexAddIndirectToLea, CallIndirectToRelative, JmpIndirectToRelative};
+ghost use Rattle.rules.specs.Kinds.{TlsGdToLocalExec, TlsGdToLocalExecLarge, TlsLdToLocalExec, TlsLdToLocalExecNoPlt, TlsLdToLocalExec64};
+ghost use Rattle.rules.specs.Kinds.{TlsGdToInitialExec, SkipTlsDescCall, shapeOf};
+ghost use Rattle.rules.specs.Rewrite.{rexMoved, rex2Moved, rexCopied, evexMoved, moved, based, evexToAbsolute, rewritten, newOffset};
+ghost use Rattle.rules.specs.Rewrite.{rewriting, afterRewriting};
 ghost use Rattle.relaxation_kind.specs.Kind.{kindOf};
-ghost use Rattle.rewriting.specs.Apply.{inside, doneAt, appliedOf, attempt, sequenced, opcodeSet, registerFormSet, prefixedSet, toAbsoluteOr};
+ghost use Rattle.rewriting.specs.Apply.{appliedOf, movedTo, inside, attemptOf, bytesOf, attempt, attemptedBytes, windowed, windowedBytes};
+ghost use Rattle.rewriting.specs.Apply.{registerFormSet, prefixedSet};
 use relaxation_kind::RelaxationKind;
 
 // Where the field lies now, and its addend.
@@ -40,18 +44,22 @@ pub fn apply(
     if section_bytes.len() < offset {
         return Applied::Refused(2);
     }
-    rewrite(kind, section_bytes, offset, addend)
+    let refusal = rewrite(kind, section_bytes, offset);
+    if refusal == 0 {
+        return Applied::Done(move_field(kind, offset_in_section, addend));
+    }
+    Applied::Refused(refusal)
 }
 
-// One match over the kinds, as in the Rust.
-fn rewrite(kind: RelaxationKind, section_bytes: &mut [u8], offset: usize, addend: i64) -> Applied
-    requires { ⌜ (offset ≤ length (now «section_bytes»)) × (length (now «section_bytes») ≤ 268435456) ⌝ }
-    ensures { λ r. ⌜ r ≡ appliedOf (attempt (kindOf kind) (now («section_bytes» .entry)) offset addend) ⌝ }
-    ensures { λ _. ⌜ now («section_bytes» .exit) ≡ afterRewriting (now («section_bytes» .entry)) (attempt (kindOf kind) (now («section_bytes» .entry)) offset addend) ⌝ }
+// The new bytes, by one match over the kinds as in the Rust: 0, or refusal 5 or 6.
+fn rewrite(kind: RelaxationKind, section_bytes: &mut [u8], offset: usize) -> u8
+    requires { ⌜ offset ≤ length (now «section_bytes») ⌝ }
+    ensures { λ r. ⌜ r ≡ attempt (kindOf kind) (now («section_bytes» .entry)) offset ⌝ }
+    ensures { λ _. ⌜ now («section_bytes» .exit) ≡ attemptedBytes (kindOf kind) (now («section_bytes» .entry)) offset ⌝ }
 {
     match kind {
         // Since the value is an address, a PC-relative mov becomes a PC-relative lea.
-        RelaxationKind::MovIndirectToLea => set_opcode(section_bytes, offset, 0x8d, addend),
+        RelaxationKind::MovIndirectToLea => set_opcode(section_bytes, offset, 0x8d),
         RelaxationKind::MovIndirectToAbsolute => mov_to_absolute(section_bytes, offset),
         RelaxationKind::RexMovIndirectToAbsolute(n) => to_absolute(
             section_bytes,
@@ -76,33 +84,94 @@ fn rewrite(kind: RelaxationKind, section_bytes: &mut [u8], offset: usize, addend
             0x81,
             0xf8,
         ),
-        RelaxationKind::CallIndirectToRelative => call_to_relative(section_bytes, offset, addend),
-        RelaxationKind::JmpIndirectToRelative => jmp_to_relative(section_bytes, offset, addend),
-        RelaxationKind::NoOp => done(offset, addend),
+        RelaxationKind::CallIndirectToRelative => call_to_relative(section_bytes, offset),
+        RelaxationKind::JmpIndirectToRelative => jmp_to_relative(section_bytes, offset),
+        RelaxationKind::NoOp => 0,
         RelaxationKind::TlsGdToLocalExec => gd_to_local_exec(section_bytes, offset),
         RelaxationKind::TlsGdToLocalExecLarge => gd_to_local_exec_large(section_bytes, offset),
-        RelaxationKind::TlsLdToLocalExec => ld_to_local_exec(section_bytes, offset, addend),
-        RelaxationKind::TlsLdToLocalExecNoPlt => ld_to_local_exec_no_plt(
-            section_bytes,
-            offset,
-            addend,
-        ),
-        RelaxationKind::TlsLdToLocalExec64 => ld_to_local_exec_64(section_bytes, offset, addend),
-        RelaxationKind::TlsGdToInitialExec => gd_to_initial_exec(section_bytes, offset, addend),
+        RelaxationKind::TlsLdToLocalExec => ld_to_local_exec(section_bytes, offset),
+        RelaxationKind::TlsLdToLocalExecNoPlt => ld_to_local_exec_no_plt(section_bytes, offset),
+        RelaxationKind::TlsLdToLocalExec64 => ld_to_local_exec_64(section_bytes, offset),
+        RelaxationKind::TlsGdToInitialExec => gd_to_initial_exec(section_bytes, offset),
         RelaxationKind::TlsDescToLocalExec(n) => to_absolute(section_bytes, offset, n, 0xc7, 0xc0),
         // lea becomes mov, with the same prefix and addressing mode.
-        RelaxationKind::TlsDescToInitialExec => set_opcode(section_bytes, offset, 0x8b, addend),
-        RelaxationKind::SkipTlsDescCall => skip_desc_call(section_bytes, offset, addend),
+        RelaxationKind::TlsDescToInitialExec => set_opcode(section_bytes, offset, 0x8b),
+        RelaxationKind::SkipTlsDescCall => skip_desc_call(section_bytes, offset),
     }
 }
 
-fn done(offset: usize, addend: i64) -> Applied
-    ensures { λ r. ⌜ r ≡ doneAt offset addend ⌝ }
+// ---- Offset and addend
+
+// Where the field lies after rewriting, and its addend.
+fn move_field(kind: RelaxationKind, offset: u64, addend: i64) -> Moved
+    requires { ⌜ (shapeOf (kindOf kind) .back ≤ offset) × (offset ≤ 268435456) ⌝ }
+    ensures { λ r. ⌜ r ≡ movedTo (kindOf kind) offset addend ⌝ }
 {
-    Applied::Done(Moved {
-        offset: offset as u64,
+    let cleared = clears_addend(kind);
+    let new_offset = offset + field_at_1(kind) - 1;
+    if cleared {
+        return Moved {
+            offset: new_offset,
+            addend: 0,
+        };
+    }
+    Moved {
+        offset: new_offset,
         addend: addend,
-    })
+    }
+}
+
+// The new offset of a field at offset 1: a jmp is 1 byte shorter, thread-local fields move on.
+fn field_at_1(kind: RelaxationKind) -> u64
+    ensures { λ r. ⌜ r ≡ newOffset (kindOf kind) 1 ⌝ }
+{
+    match kind {
+        RelaxationKind::MovIndirectToLea => 1,
+        RelaxationKind::MovIndirectToAbsolute => 1,
+        RelaxationKind::RexMovIndirectToAbsolute(_) => 1,
+        RelaxationKind::RexAddIndirectToAbsolute(_) => 1,
+        RelaxationKind::RexAddIndirectToLea(_) => 1,
+        RelaxationKind::RexSubIndirectToAbsolute(_) => 1,
+        RelaxationKind::RexCmpIndirectToAbsolute(_) => 1,
+        RelaxationKind::CallIndirectToRelative => 1,
+        RelaxationKind::JmpIndirectToRelative => 0,
+        RelaxationKind::NoOp => 1,
+        RelaxationKind::TlsGdToLocalExec => 9,
+        RelaxationKind::TlsGdToLocalExecLarge => 10,
+        RelaxationKind::TlsLdToLocalExec => 6,
+        RelaxationKind::TlsLdToLocalExecNoPlt => 6,
+        RelaxationKind::TlsLdToLocalExec64 => 16,
+        RelaxationKind::TlsGdToInitialExec => 9,
+        RelaxationKind::TlsDescToLocalExec(_) => 1,
+        RelaxationKind::TlsDescToInitialExec => 1,
+        RelaxationKind::SkipTlsDescCall => 1,
+    }
+}
+
+fn clears_addend(kind: RelaxationKind) -> bool
+    ensures { λ r. ⌜ r ≡ shapeOf (kindOf kind) .clears ⌝ }
+{
+    match kind {
+        RelaxationKind::MovIndirectToLea => false,
+        RelaxationKind::MovIndirectToAbsolute => true,
+        RelaxationKind::RexMovIndirectToAbsolute(_) => true,
+        RelaxationKind::RexAddIndirectToAbsolute(_) => true,
+        RelaxationKind::RexAddIndirectToLea(_) => true,
+        RelaxationKind::RexSubIndirectToAbsolute(_) => true,
+        RelaxationKind::RexCmpIndirectToAbsolute(_) => true,
+        RelaxationKind::CallIndirectToRelative => false,
+        RelaxationKind::JmpIndirectToRelative => false,
+        RelaxationKind::NoOp => false,
+        RelaxationKind::TlsGdToLocalExec => true,
+        RelaxationKind::TlsGdToLocalExecLarge => true,
+        RelaxationKind::TlsLdToLocalExec => false,
+        RelaxationKind::TlsLdToLocalExecNoPlt => false,
+        RelaxationKind::TlsLdToLocalExec64 => false,
+        RelaxationKind::TlsGdToInitialExec => false,
+        RelaxationKind::TlsDescToLocalExec(_) => true,
+        RelaxationKind::TlsDescToInitialExec => false,
+        RelaxationKind::SkipTlsDescCall => false,
+    }
 }
 
 // Whether the window of `size` bytes from `back` before the offset on lies wholly inside.
@@ -176,19 +245,6 @@ fn base_form(mod_rm: u8) -> u8
 
 // ---- Instructions whose operand becomes absolute
 
-// An opcode, the rest of the instruction as it is.
-fn set_opcode(section_bytes: &mut [u8], offset: usize, opcode: u8, addend: i64) -> Applied
-    ensures { λ r. ⌜ r ≡ appliedOf (opcodeSet opcode (now («section_bytes» .entry)) offset addend) ⌝ }
-    ensures { λ _. ⌜ now («section_bytes» .exit) ≡ afterRewriting (now («section_bytes» .entry)) (opcodeSet opcode (now («section_bytes» .entry)) offset addend) ⌝ }
-{
-    let inside = is_inside(section_bytes.len(), offset, 2, 1);
-    if inside {
-        section_bytes[offset - 2] = opcode;
-        return done(offset, addend);
-    }
-    Applied::Refused(6)
-}
-
 // An opcode, and its ModRM byte in register form.
 fn set_register_form(section_bytes: &mut [u8], offset: usize, opcode: u8, base: u8)
     requires { ⌜ (2 ≤ offset) × (offset ≤ length (now «section_bytes»)) × (base % 8 ≡ 0) ⌝ }
@@ -229,47 +285,54 @@ fn set_lea(section_bytes: &mut [u8], offset: usize)
     section_bytes[offset - 1] = base_form(mod_rm);
 }
 
+// An opcode, the rest of the instruction as it is.
+fn set_opcode(section_bytes: &mut [u8], offset: usize, opcode: u8) -> u8
+    ensures { λ r. ⌜ r ≡ windowed 2 1 (now («section_bytes» .entry)) offset ⌝ }
+    ensures { λ _. ⌜ now («section_bytes» .exit) ≡ windowedBytes 2 1 (now («section_bytes» .entry)) offset (sets (now («section_bytes» .entry)) (offset - 2) (opcode ∷ [])) ⌝ }
+{
+    let inside = is_inside(section_bytes.len(), offset, 2, 1);
+    if inside {
+        section_bytes[offset - 2] = opcode;
+        return 0;
+    }
+    6
+}
+
 // mov *x(%rip), reg -> mov x, reg
-fn mov_to_absolute(section_bytes: &mut [u8], offset: usize) -> Applied
-    ensures { λ r. ⌜ r ≡ appliedOf (attempt MovIndirectToAbsolute (now («section_bytes» .entry)) offset (pos 0)) ⌝ }
-    ensures { λ _. ⌜ now («section_bytes» .exit) ≡ afterRewriting (now («section_bytes» .entry)) (attempt MovIndirectToAbsolute (now («section_bytes» .entry)) offset (pos 0)) ⌝ }
+fn mov_to_absolute(section_bytes: &mut [u8], offset: usize) -> u8
+    ensures { λ r. ⌜ r ≡ attempt MovIndirectToAbsolute (now («section_bytes» .entry)) offset ⌝ }
+    ensures { λ _. ⌜ now («section_bytes» .exit) ≡ attemptedBytes MovIndirectToAbsolute (now («section_bytes» .entry)) offset ⌝ }
 {
     let inside = is_inside(section_bytes.len(), offset, 2, 2);
     if inside {
         set_register_form(section_bytes, offset, 0xc7, 0xc0);
-        return done(offset, 0);
+        return 0;
     }
-    Applied::Refused(6)
+    6
 }
 
 // The same with a REX or REX2 prefix, whose register bits move; mov, add, sub and cmp by opcode and base.
-fn to_absolute(
-    section_bytes: &mut [u8],
-    offset: usize,
-    inst_offset: u8,
-    opcode: u8,
-    base: u8,
-) -> Applied
+fn to_absolute(section_bytes: &mut [u8], offset: usize, inst_offset: u8, opcode: u8, base: u8) -> u8
     requires { ⌜ base % 8 ≡ 0 ⌝ }
-    ensures { λ r. ⌜ r ≡ appliedOf (toAbsoluteOr «inst_offset» opcode base (now («section_bytes» .entry)) offset) ⌝ }
-    ensures { λ _. ⌜ now («section_bytes» .exit) ≡ afterRewriting (now («section_bytes» .entry)) (toAbsoluteOr «inst_offset» opcode base (now («section_bytes» .entry)) offset) ⌝ }
+    ensures { λ r. ⌜ r ≡ attemptOf (eqb «inst_offset» 3 || eqb «inst_offset» 4) (inside 3 3 (length (now («section_bytes» .entry))) offset) ⌝ }
+    ensures { λ _. ⌜ now («section_bytes» .exit) ≡ bytesOf (eqb «inst_offset» 3 || eqb «inst_offset» 4) (inside 3 3 (length (now («section_bytes» .entry))) offset) (prefixedSet «inst_offset» opcode base (now («section_bytes» .entry)) offset) (now («section_bytes» .entry)) ⌝ }
 {
     let allowed = (inst_offset == 3) | (inst_offset == 4);
     if allowed {
         let inside = is_inside(section_bytes.len(), offset, 3, 3);
         if inside {
             set_prefixed(section_bytes, offset, inst_offset, opcode, base);
-            return done(offset, 0);
+            return 0;
         }
-        return Applied::Refused(6);
+        return 6;
     }
-    Applied::Refused(5)
+    5
 }
 
 // add *x(%rip), reg -> add x, reg
-fn add_to_absolute(section_bytes: &mut [u8], offset: usize, inst_offset: u8) -> Applied
-    ensures { λ r. ⌜ r ≡ appliedOf (attempt (RexAddIndirectToAbsolute «inst_offset») (now («section_bytes» .entry)) offset (pos 0)) ⌝ }
-    ensures { λ _. ⌜ now («section_bytes» .exit) ≡ afterRewriting (now («section_bytes» .entry)) (attempt (RexAddIndirectToAbsolute «inst_offset») (now («section_bytes» .entry)) offset (pos 0)) ⌝ }
+fn add_to_absolute(section_bytes: &mut [u8], offset: usize, inst_offset: u8) -> u8
+    ensures { λ r. ⌜ r ≡ attempt (RexAddIndirectToAbsolute «inst_offset») (now («section_bytes» .entry)) offset ⌝ }
+    ensures { λ _. ⌜ now («section_bytes» .exit) ≡ attemptedBytes (RexAddIndirectToAbsolute «inst_offset») (now («section_bytes» .entry)) offset ⌝ }
 {
     if inst_offset == 6 {
         evex_add_to_absolute(section_bytes, offset)
@@ -278,54 +341,48 @@ fn add_to_absolute(section_bytes: &mut [u8], offset: usize, inst_offset: u8) -> 
     }
 }
 
-fn evex_add_to_absolute(section_bytes: &mut [u8], offset: usize) -> Applied
-    ensures { λ r. ⌜ r ≡ appliedOf (attempt (RexAddIndirectToAbsolute 6) (now («section_bytes» .entry)) offset (pos 0)) ⌝ }
-    ensures { λ _. ⌜ now («section_bytes» .exit) ≡ afterRewriting (now («section_bytes» .entry)) (attempt (RexAddIndirectToAbsolute 6) (now («section_bytes» .entry)) offset (pos 0)) ⌝ }
+// The same with an EVEX prefix.
+fn evex_add_to_absolute(section_bytes: &mut [u8], offset: usize) -> u8
+    ensures { λ r. ⌜ r ≡ attempt (RexAddIndirectToAbsolute 6) (now («section_bytes» .entry)) offset ⌝ }
+    ensures { λ _. ⌜ now («section_bytes» .exit) ≡ attemptedBytes (RexAddIndirectToAbsolute 6) (now («section_bytes» .entry)) offset ⌝ }
 {
     let inside = is_inside(section_bytes.len(), offset, 5, 5);
     if inside {
         set_evex_add(section_bytes, offset);
-        return done(offset, 0);
+        return 0;
     }
-    Applied::Refused(6)
+    6
 }
 
 // add x(%rip), reg -> lea x(reg), reg
-fn add_to_lea(section_bytes: &mut [u8], offset: usize, inst_offset: u8) -> Applied
-    ensures { λ r. ⌜ r ≡ appliedOf (attempt (RexAddIndirectToLea «inst_offset») (now («section_bytes» .entry)) offset (pos 0)) ⌝ }
-    ensures { λ _. ⌜ now («section_bytes» .exit) ≡ afterRewriting (now («section_bytes» .entry)) (attempt (RexAddIndirectToLea «inst_offset») (now («section_bytes» .entry)) offset (pos 0)) ⌝ }
+fn add_to_lea(section_bytes: &mut [u8], offset: usize, inst_offset: u8) -> u8
+    ensures { λ r. ⌜ r ≡ attempt (RexAddIndirectToLea «inst_offset») (now («section_bytes» .entry)) offset ⌝ }
+    ensures { λ _. ⌜ now («section_bytes» .exit) ≡ attemptedBytes (RexAddIndirectToLea «inst_offset») (now («section_bytes» .entry)) offset ⌝ }
 {
     if inst_offset == 3 {
         let inside = is_inside(section_bytes.len(), offset, 3, 3);
         if inside {
             set_lea(section_bytes, offset);
-            return done(offset, 0);
+            return 0;
         }
-        return Applied::Refused(6);
+        return 6;
     }
-    Applied::Refused(5)
+    5
 }
 
 // ---- Sequences: fixed byte strings
 
-// A fixed byte string in the place of the window.
-fn sequence(
-    section_bytes: &mut [u8],
-    offset: usize,
-    back: usize,
-    fixed: &[u8],
-    new_offset: usize,
-    addend: i64,
-) -> Applied
-    ensures { λ r. ⌜ r ≡ appliedOf (sequenced back (now (fixed .entry)) «new_offset» addend (now («section_bytes» .entry)) offset) ⌝ }
-    ensures { λ _. ⌜ now («section_bytes» .exit) ≡ afterRewriting (now («section_bytes» .entry)) (sequenced back (now (fixed .entry)) «new_offset» addend (now («section_bytes» .entry)) offset) ⌝ }
+// A fixed byte string in the place of the window that starts `back` before the offset.
+fn sequence(section_bytes: &mut [u8], offset: usize, back: usize, fixed: &[u8]) -> u8
+    ensures { λ r. ⌜ r ≡ windowed back (length (now (fixed .entry))) (now («section_bytes» .entry)) offset ⌝ }
+    ensures { λ _. ⌜ now («section_bytes» .exit) ≡ windowedBytes back (length (now (fixed .entry))) (now («section_bytes» .entry)) offset (sets (now («section_bytes» .entry)) (offset - back) (now (fixed .entry))) ⌝ }
 {
     let inside = is_inside(section_bytes.len(), offset, back, fixed.len());
     if inside {
         write(section_bytes, offset - back, fixed);
-        return done(new_offset, addend);
+        return 0;
     }
-    Applied::Refused(6)
+    6
 }
 
 // The Rust's `copy_from_slice`.
@@ -341,131 +398,103 @@ fn write(section_bytes: &mut [u8], at: usize, fixed: &[u8])
 }
 
 // call *x(%rip) -> addr32 call x(%rip)
-fn call_to_relative(section_bytes: &mut [u8], offset: usize, addend: i64) -> Applied
-    ensures { λ r. ⌜ r ≡ appliedOf (attempt CallIndirectToRelative (now («section_bytes» .entry)) offset addend) ⌝ }
-    ensures { λ _. ⌜ now («section_bytes» .exit) ≡ afterRewriting (now («section_bytes» .entry)) (attempt CallIndirectToRelative (now («section_bytes» .entry)) offset addend) ⌝ }
+fn call_to_relative(section_bytes: &mut [u8], offset: usize) -> u8
+    ensures { λ r. ⌜ r ≡ attempt CallIndirectToRelative (now («section_bytes» .entry)) offset ⌝ }
+    ensures { λ _. ⌜ now («section_bytes» .exit) ≡ attemptedBytes CallIndirectToRelative (now («section_bytes» .entry)) offset ⌝ }
 {
-    sequence(section_bytes, offset, 2, b"\x67\xe8", offset, addend)
+    sequence(section_bytes, offset, 2, b"\x67\xe8")
 }
 
-// jmp *x(%rip) -> jmp x(%rip), which is 1 byte shorter; nop
-fn jmp_to_relative(section_bytes: &mut [u8], offset: usize, addend: i64) -> Applied
-    ensures { λ r. ⌜ r ≡ appliedOf (attempt JmpIndirectToRelative (now («section_bytes» .entry)) offset addend) ⌝ }
-    ensures { λ _. ⌜ now («section_bytes» .exit) ≡ afterRewriting (now («section_bytes» .entry)) (attempt JmpIndirectToRelative (now («section_bytes» .entry)) offset addend) ⌝ }
+// jmp *x(%rip) -> jmp x(%rip); nop
+fn jmp_to_relative(section_bytes: &mut [u8], offset: usize) -> u8
+    ensures { λ r. ⌜ r ≡ attempt JmpIndirectToRelative (now («section_bytes» .entry)) offset ⌝ }
+    ensures { λ _. ⌜ now («section_bytes» .exit) ≡ attemptedBytes JmpIndirectToRelative (now («section_bytes» .entry)) offset ⌝ }
 {
-    if offset < 2 {
-        return Applied::Refused(6);
-    }
-    sequence(
-        section_bytes,
-        offset,
-        2,
-        b"\xe9\x00\x00\x00\x00\x90",
-        offset - 1,
-        addend,
-    )
+    sequence(section_bytes, offset, 2, b"\xe9\x00\x00\x00\x00\x90")
 }
 
 // mov %fs:0,%rax; lea {offset}(%rax),%rax
-fn gd_to_local_exec(section_bytes: &mut [u8], offset: usize) -> Applied
-    requires { ⌜ offset ≤ 268435456 ⌝ }
-    ensures { λ r. ⌜ r ≡ appliedOf (attempt TlsGdToLocalExec (now («section_bytes» .entry)) offset (pos 0)) ⌝ }
-    ensures { λ _. ⌜ now («section_bytes» .exit) ≡ afterRewriting (now («section_bytes» .entry)) (attempt TlsGdToLocalExec (now («section_bytes» .entry)) offset (pos 0)) ⌝ }
+fn gd_to_local_exec(section_bytes: &mut [u8], offset: usize) -> u8
+    ensures { λ r. ⌜ r ≡ attempt TlsGdToLocalExec (now («section_bytes» .entry)) offset ⌝ }
+    ensures { λ _. ⌜ now («section_bytes» .exit) ≡ attemptedBytes TlsGdToLocalExec (now («section_bytes» .entry)) offset ⌝ }
 {
     sequence(
         section_bytes,
         offset,
         4,
         b"\x64\x48\x8b\x04\x25\x00\x00\x00\x00\x48\x8d\x80",
-        offset + 8,
-        0,
     )
 }
 
 // mov %fs:0,%rax; lea {offset}(%rax),%rax; nopw (%rax,%rax)
-fn gd_to_local_exec_large(section_bytes: &mut [u8], offset: usize) -> Applied
-    requires { ⌜ offset ≤ 268435456 ⌝ }
-    ensures { λ r. ⌜ r ≡ appliedOf (attempt TlsGdToLocalExecLarge (now («section_bytes» .entry)) offset (pos 0)) ⌝ }
-    ensures { λ _. ⌜ now («section_bytes» .exit) ≡ afterRewriting (now («section_bytes» .entry)) (attempt TlsGdToLocalExecLarge (now («section_bytes» .entry)) offset (pos 0)) ⌝ }
+fn gd_to_local_exec_large(section_bytes: &mut [u8], offset: usize) -> u8
+    ensures { λ r. ⌜ r ≡ attempt TlsGdToLocalExecLarge (now («section_bytes» .entry)) offset ⌝ }
+    ensures { λ _. ⌜ now («section_bytes» .exit) ≡ attemptedBytes TlsGdToLocalExecLarge (now («section_bytes» .entry)) offset ⌝ }
 {
     sequence(
         section_bytes,
         offset,
         3,
         b"\x64\x48\x8b\x04\x25\x00\x00\x00\x00\x48\x8d\x80\x00\x00\x00\x00\x66\x0f\x1f\x44\x00\x00",
-        offset + 9,
-        0,
     )
 }
 
 // mov %fs:0,%rax
-fn ld_to_local_exec(section_bytes: &mut [u8], offset: usize, addend: i64) -> Applied
-    requires { ⌜ offset ≤ 268435456 ⌝ }
-    ensures { λ r. ⌜ r ≡ appliedOf (attempt TlsLdToLocalExec (now («section_bytes» .entry)) offset addend) ⌝ }
-    ensures { λ _. ⌜ now («section_bytes» .exit) ≡ afterRewriting (now («section_bytes» .entry)) (attempt TlsLdToLocalExec (now («section_bytes» .entry)) offset addend) ⌝ }
+fn ld_to_local_exec(section_bytes: &mut [u8], offset: usize) -> u8
+    ensures { λ r. ⌜ r ≡ attempt TlsLdToLocalExec (now («section_bytes» .entry)) offset ⌝ }
+    ensures { λ _. ⌜ now («section_bytes» .exit) ≡ attemptedBytes TlsLdToLocalExec (now («section_bytes» .entry)) offset ⌝ }
 {
     sequence(
         section_bytes,
         offset,
         3,
         b"\x66\x66\x66\x64\x48\x8b\x04\x25\x00\x00\x00\x00",
-        offset + 5,
-        addend,
     )
 }
 
 // mov %fs:0,%rax
-fn ld_to_local_exec_no_plt(section_bytes: &mut [u8], offset: usize, addend: i64) -> Applied
-    requires { ⌜ offset ≤ 268435456 ⌝ }
-    ensures { λ r. ⌜ r ≡ appliedOf (attempt TlsLdToLocalExecNoPlt (now («section_bytes» .entry)) offset addend) ⌝ }
-    ensures { λ _. ⌜ now («section_bytes» .exit) ≡ afterRewriting (now («section_bytes» .entry)) (attempt TlsLdToLocalExecNoPlt (now («section_bytes» .entry)) offset addend) ⌝ }
+fn ld_to_local_exec_no_plt(section_bytes: &mut [u8], offset: usize) -> u8
+    ensures { λ r. ⌜ r ≡ attempt TlsLdToLocalExecNoPlt (now («section_bytes» .entry)) offset ⌝ }
+    ensures { λ _. ⌜ now («section_bytes» .exit) ≡ attemptedBytes TlsLdToLocalExecNoPlt (now («section_bytes» .entry)) offset ⌝ }
 {
     sequence(
         section_bytes,
         offset,
         3,
         b"\x66\x66\x66\x66\x64\x48\x8b\x04\x25\x00\x00\x00\x00",
-        offset + 5,
-        addend,
     )
 }
 
 // nopw (%rax,%rax); mov %fs:0,%rax
-fn ld_to_local_exec_64(section_bytes: &mut [u8], offset: usize, addend: i64) -> Applied
-    requires { ⌜ offset ≤ 268435456 ⌝ }
-    ensures { λ r. ⌜ r ≡ appliedOf (attempt TlsLdToLocalExec64 (now («section_bytes» .entry)) offset addend) ⌝ }
-    ensures { λ _. ⌜ now («section_bytes» .exit) ≡ afterRewriting (now («section_bytes» .entry)) (attempt TlsLdToLocalExec64 (now («section_bytes» .entry)) offset addend) ⌝ }
+fn ld_to_local_exec_64(section_bytes: &mut [u8], offset: usize) -> u8
+    ensures { λ r. ⌜ r ≡ attempt TlsLdToLocalExec64 (now («section_bytes» .entry)) offset ⌝ }
+    ensures { λ _. ⌜ now («section_bytes» .exit) ≡ attemptedBytes TlsLdToLocalExec64 (now («section_bytes» .entry)) offset ⌝ }
 {
     sequence(
         section_bytes,
         offset,
         3,
         b"\x66\x66\x66\x66\x2e\x0f\x1f\x84\x00\x00\x00\x00\x00\x64\x48\x8b\x04\x25\x00\x00\x00\x00",
-        offset + 15,
-        addend,
     )
 }
 
 // mov %fs:0,%rax; add *x,%rax
-fn gd_to_initial_exec(section_bytes: &mut [u8], offset: usize, addend: i64) -> Applied
-    requires { ⌜ offset ≤ 268435456 ⌝ }
-    ensures { λ r. ⌜ r ≡ appliedOf (attempt TlsGdToInitialExec (now («section_bytes» .entry)) offset addend) ⌝ }
-    ensures { λ _. ⌜ now («section_bytes» .exit) ≡ afterRewriting (now («section_bytes» .entry)) (attempt TlsGdToInitialExec (now («section_bytes» .entry)) offset addend) ⌝ }
+fn gd_to_initial_exec(section_bytes: &mut [u8], offset: usize) -> u8
+    ensures { λ r. ⌜ r ≡ attempt TlsGdToInitialExec (now («section_bytes» .entry)) offset ⌝ }
+    ensures { λ _. ⌜ now («section_bytes» .exit) ≡ attemptedBytes TlsGdToInitialExec (now («section_bytes» .entry)) offset ⌝ }
 {
     sequence(
         section_bytes,
         offset,
         4,
         b"\x64\x48\x8b\x04\x25\x00\x00\x00\x00\x48\x03\x05",
-        offset + 8,
-        addend,
     )
 }
 
 // xchg %ax,%ax
-fn skip_desc_call(section_bytes: &mut [u8], offset: usize, addend: i64) -> Applied
-    ensures { λ r. ⌜ r ≡ appliedOf (attempt SkipTlsDescCall (now («section_bytes» .entry)) offset addend) ⌝ }
-    ensures { λ _. ⌜ now («section_bytes» .exit) ≡ afterRewriting (now («section_bytes» .entry)) (attempt SkipTlsDescCall (now («section_bytes» .entry)) offset addend) ⌝ }
+fn skip_desc_call(section_bytes: &mut [u8], offset: usize) -> u8
+    ensures { λ r. ⌜ r ≡ attempt SkipTlsDescCall (now («section_bytes» .entry)) offset ⌝ }
+    ensures { λ _. ⌜ now («section_bytes» .exit) ≡ attemptedBytes SkipTlsDescCall (now («section_bytes» .entry)) offset ⌝ }
 {
-    sequence(section_bytes, offset, 0, b"\x66\x90", offset, addend)
+    sequence(section_bytes, offset, 0, b"\x66\x90")
 }

@@ -1,25 +1,28 @@
--- `starts_with` meets its contract: what is left of both, compared from here on, decides.
+-- `starts_with` meets its contract: what was alike so far, and what is left of both, decide.
 -- Assumes nothing.
-use mathlib.Core.Path.{_≡_, refl, sym, _∙_}
+use mathlib.Core.Path.{_≡_, refl, sym, ap, _∙_}
+use mathlib.Core.Bool.{Bool, _&&_}
 use Prim.Native.Nat.{_≤_, _-_}
 use native.Mathlib.Omega.{arith}
 use lib.ListN.{length, drop}
 use Rattle.rules.specs.Choose.{startsWith}
 use Rattle.new_relaxation.proofs.Sequence.{step, short, ended}
+use Rattle.new_relaxation.proofs.Tests.{and-true, and-assoc}
 use Rattle.new_relaxation.proofs.starts_with.Statement.{statement}
 use Rattle.new_relaxation.proofs.starts_with.Tie as tie
 
 abbrev Inv-loop : tie.InvT-loop
-Inv-loop part fixed i₀ i = (i ≤ length fixed) × (startsWith fixed part ≡ startsWith (drop i fixed) (drop i part))
+Inv-loop part fixed same₀ i₀ same i =
+    (i ≤ length fixed) × (startsWith fixed part ≡ (same && startsWith (drop i fixed) (drop i part)))
 
 abbrev μ-loop : tie.MeasureT-loop
-μ-loop part fixed i₀ i = length fixed - i
+μ-loop part fixed same₀ i₀ same i = length fixed - i
+
+returns : tie.Need-returns Inv-loop μ-loop
+returns c = sym (short (c .before .args .fixed .now) (c .before .args .part .now) (c .if1 .taken))
 
 loop-holds : tie.Need-loop-holds Inv-loop μ-loop
 loop-holds c = (omega arith, refl)
-
-returns : tie.Need-returns Inv-loop μ-loop
-returns c = sym (c .before .before .loop .inv .1 ∙ short _ _ _ (c .before .loop-test .taken) (c .if1 .taken))
 
 shared-slice-read-same : tie.Need-shared-slice-read-same Inv-loop μ-loop
 shared-slice-read-same c = omega arith
@@ -35,16 +38,11 @@ loop-less c = omega arith
 
 loop-again : tie.Need-loop-again Inv-loop μ-loop
 loop-again c =
-    let d = c .before .before .before .before .before in
-    (omega arith, rw (c .if2 .taken) at (d .loop .inv .1 ∙ step _ _ (d .loop .i) (omega arith) (omega arith)))
+    let d = c .before .before .before in
+    (omega arith, d .loop .inv .1 ∙ (ap (λ (b : Bool). d .loop .same && b) (step _ _ (d .loop .i) (omega arith) (omega arith)) ∙ and-assoc (d .loop .same) _ _))
 
 returns-2 : tie.Need-returns-2 Inv-loop μ-loop
-returns-2 c =
-    let d = c .before .before .before .before .before in
-    sym (rw (c .if2 .left) at (d .loop .inv .1 ∙ step _ _ (d .loop .i) (omega arith) (omega arith)))
-
-returns-3 : tie.Need-returns-3 Inv-loop μ-loop
-returns-3 c = sym (c .before .loop .inv .1 ∙ ended _ _ _ (c .loop-test .left))
+returns-2 c = sym (c .before .loop .inv .1 ∙ rw (ended _ _ _ (c .loop-test .left)) (and-true (c .before .loop .same)))
 
 pub starts-with-spec : {M : Type 1} → statement M
 starts-with-spec =
@@ -52,12 +50,11 @@ starts-with-spec =
     (tie.spec
     Inv-loop
     μ-loop
-    loop-holds
     returns
+    loop-holds
     shared-slice-read-same
     shared-slice-read-same-2
     add-i
     loop-less
     loop-again
-    returns-2
-    returns-3)
+    returns-2)

@@ -1,16 +1,15 @@
 -- `add_to_absolute` meets its contract, by prefix.
 -- Assumes nothing.
 use Rattle.rewriting.proofs.Window.{or-false}
+use Rattle.rewriting.specs.Apply.{attemptedBytes}
 use Rattle.rewriting.specs.Apply.{attempt}
-use Rattle.rules.specs.Rewrite.{afterRewriting}
 use borrow.Author.Needs.{needs}
 use borrow.Author.Tests.{ne-eqb}
-use mathlib.Core.Path.{refl}
 use Rattle.rewriting.proofs.add_to_absolute.Statement.{statement}
 use Rattle.rewriting.proofs.add_to_absolute.Tie as tie
 
 pub add-to-absolute-spec : {M : Type 1} → statement M
-unfolding attempt afterRewriting
+unfolding attempt attemptedBytes
 add-to-absolute-spec =
     tie.close
     (tie.spec

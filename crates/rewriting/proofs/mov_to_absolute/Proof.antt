@@ -2,8 +2,8 @@
 -- Assumes nothing.
 use Rattle.rewriting.proofs.Window.{within}
 use lib.ListN.{length}
+use Rattle.rewriting.specs.Apply.{attemptedBytes}
 use Rattle.rewriting.specs.Apply.{attempt}
-use Rattle.rules.specs.Rewrite.{afterRewriting}
 use borrow.Author.Needs.{needs}
 use mathlib.Core.Path.{refl, sym, _∙_}
 use mathlib.Core.Path.{refl}
@@ -12,13 +12,12 @@ use Rattle.rewriting.proofs.mov_to_absolute.Statement.{statement}
 use Rattle.rewriting.proofs.mov_to_absolute.Tie as tie
 
 pub mov-to-absolute-spec : {M : Type 1} → statement M
-unfolding attempt afterRewriting
+unfolding attempt attemptedBytes
 mov-to-absolute-spec =
     tie.close
     (tie.spec
     (λ c κs. search needs)
     (λ c κs. let w = within 2 2 (length (c .before .before .before .before .args .section-bytes .now)) (c .before .before .before .before .args .offset) (sym (c .before .before .is-inside .ensures) ∙ c .before .if1 .taken) in (w .0, omega arith, refl))
-    (λ c κs. search needs)
     (λ c. search needs)
-    (λ c. simp (← c .before .before .before .before .before .before .is-inside .ensures, ← c .before .before .before .set-register-form .ensures, c .before .before .before .before .before .if1 .taken, c .done .ensures) (refl, refl))
+    (λ c. simp (← c .before .before .before .before .before .is-inside .ensures, ← c .before .before .set-register-form .ensures, c .before .before .before .before .if1 .taken) (refl, refl))
     (λ c. simp (← c .before .is-inside .ensures, c .if1 .left) (refl, refl)))

@@ -1,20 +1,18 @@
 -- `rewrite` meets its contract, kind by kind.
 -- Assumes nothing.
 use Prim.Native.Nat.{_+_, _-_, _≤_, zero-le}
+use Rattle.rewriting.specs.Apply.{attemptedBytes}
 use Rattle.rewriting.specs.Apply.{attempt}
-use Rattle.rules.specs.Rewrite.{afterRewriting}
 use borrow.Author.Needs.{needs}
 use borrow.Author.Tests.{le-leb}
 use lib.ListN.{length}
 use mathlib.Core.Path.{refl}
-use mir.Facts.{toZ-ofZ}
-use mir.Syntax.{w64}
 use native.Mathlib.Omega.{arith}
 use Rattle.rewriting.proofs.rewrite.Statement.{statement}
 use Rattle.rewriting.proofs.rewrite.Tie as tie
 
 pub rewrite-spec : {M : Type 1} → statement M
-unfolding attempt afterRewriting
+unfolding attempt attemptedBytes
 rewrite-spec =
     tie.close
     (tie.spec
@@ -37,7 +35,6 @@ rewrite-spec =
     (λ c. search needs)
     (λ c κs. search needs)
     (λ c. search needs)
-    (λ c κs. search needs)
     (λ c. search needs)
     (λ c κs. search needs)
     (λ c. search needs)
@@ -57,7 +54,7 @@ rewrite-spec =
     (λ c. search needs)
     (λ c κs. search needs)
     (λ c. search needs)
-    (λ c. rw (c .before .before .before .before .enum-told .given .1) (rw (toZ-ofZ {w = w64} (c .before .before .before .before .before .before .before .fits .addend)) at (c .before .before .set-opcode .ensures)))
+    (λ c. rw (c .before .before .before .before .enum-told .given .1) (c .before .before .set-opcode .ensures))
     (λ c. search needs)
     (λ c. rw (c .before .before .before .before .enum-told2 .given .1) (c .before .before .mov-to-absolute .ensures))
     (λ c. search needs)
@@ -71,25 +68,25 @@ rewrite-spec =
     (λ c. search needs)
     (λ c. rw (c .before .before .before .before .before .kind5 .given .1) (c .before .before .to-absolute3 .ensures))
     (λ c. search needs)
-    (λ c. rw (c .before .before .before .before .enum-told3 .given .1) (rw (toZ-ofZ {w = w64} (c .before .before .before .before .before .before .before .fits .addend)) at (c .before .before .call-to-relative .ensures)))
+    (λ c. rw (c .before .before .before .before .enum-told3 .given .1) (c .before .before .call-to-relative .ensures))
     (λ c. search needs)
-    (λ c. rw (c .before .before .before .before .enum-told4 .given .1) (rw (toZ-ofZ {w = w64} (c .before .before .before .before .before .before .before .fits .addend)) at (c .before .before .jmp-to-relative .ensures)))
-    (λ c. let a = c .before .before .before .before .args in let h : a .offset - 0 + 0 ≤ length (a .section-bytes .now) = omega arith in simp (c .before .enum-told5 .given .1, le-leb 0 (a .offset) zero-le, le-leb _ _ h, c .done .ensures, toZ-ofZ {w = w64} (c .before .before .before .before .fits .addend)) (refl, refl))
+    (λ c. rw (c .before .before .before .before .enum-told4 .given .1) (c .before .before .jmp-to-relative .ensures))
+    (λ c. let a = c .before .before .before .args in let h : a .offset - 0 + 0 ≤ length (a .section-bytes .now) = omega arith in simp (c .enum-told5 .given .1, le-leb 0 (a .offset) zero-le, le-leb _ _ h) (refl, refl))
     (λ c. search needs)
     (λ c. rw (c .before .before .before .before .enum-told6 .given .1) (c .before .before .gd-to-local-exec .ensures))
     (λ c. search needs)
     (λ c. rw (c .before .before .before .before .enum-told7 .given .1) (c .before .before .gd-to-local-exec-large .ensures))
     (λ c. search needs)
-    (λ c. rw (c .before .before .before .before .enum-told8 .given .1) (rw (toZ-ofZ {w = w64} (c .before .before .before .before .before .before .before .fits .addend)) at (c .before .before .ld-to-local-exec .ensures)))
+    (λ c. rw (c .before .before .before .before .enum-told8 .given .1) (c .before .before .ld-to-local-exec .ensures))
     (λ c. search needs)
-    (λ c. rw (c .before .before .before .before .enum-told9 .given .1) (rw (toZ-ofZ {w = w64} (c .before .before .before .before .before .before .before .fits .addend)) at (c .before .before .ld-to-local-exec-no-plt .ensures)))
+    (λ c. rw (c .before .before .before .before .enum-told9 .given .1) (c .before .before .ld-to-local-exec-no-plt .ensures))
     (λ c. search needs)
-    (λ c. rw (c .before .before .before .before .enum-told10 .given .1) (rw (toZ-ofZ {w = w64} (c .before .before .before .before .before .before .before .fits .addend)) at (c .before .before .ld-to-local-exec-64 .ensures)))
+    (λ c. rw (c .before .before .before .before .enum-told10 .given .1) (c .before .before .ld-to-local-exec-64 .ensures))
     (λ c. search needs)
-    (λ c. rw (c .before .before .before .before .enum-told11 .given .1) (rw (toZ-ofZ {w = w64} (c .before .before .before .before .before .before .before .fits .addend)) at (c .before .before .gd-to-initial-exec .ensures)))
+    (λ c. rw (c .before .before .before .before .enum-told11 .given .1) (c .before .before .gd-to-initial-exec .ensures))
     (λ c. search needs)
     (λ c. rw (c .before .before .before .before .before .kind6 .given .1) (c .before .before .to-absolute4 .ensures))
     (λ c. search needs)
-    (λ c. rw (c .before .before .before .before .enum-told12 .given .1) (rw (toZ-ofZ {w = w64} (c .before .before .before .before .before .before .before .fits .addend)) at (c .before .before .set-opcode2 .ensures)))
+    (λ c. rw (c .before .before .before .before .enum-told12 .given .1) (c .before .before .set-opcode2 .ensures))
     (λ c. search needs)
-    (λ c. rw (c .before .before .before .before .enum-told13 .given .1) (rw (toZ-ofZ {w = w64} (c .before .before .before .before .before .before .before .fits .addend)) at (c .before .before .skip-desc-call .ensures))))
+    (λ c. rw (c .before .before .before .before .enum-told13 .given .1) (c .before .before .skip-desc-call .ensures)))

@@ -2,25 +2,20 @@
 -- Assumes nothing.
 use Rattle.rewriting.proofs.Window.{within}
 use lib.ListN.{length}
-use Rattle.rules.specs.Rewrite.{afterRewriting}
 use borrow.Author.Needs.{needs}
 use mathlib.Core.Path.{refl, sym, _∙_}
 use mathlib.Core.Path.{refl}
-use mir.Facts.{toZ-ofZ}
-use mir.Syntax.{w64}
 use native.Mathlib.Omega.{arith}
 use Rattle.rewriting.proofs.set_opcode.Statement.{statement}
 use Rattle.rewriting.proofs.set_opcode.Tie as tie
 
 pub set-opcode-spec : {M : Type 1} → statement M
-unfolding afterRewriting
 set-opcode-spec =
     tie.close
     (tie.spec
     (λ c κs. search needs)
     (λ c. let w = within 2 1 (length (c .before .before .before .args .section-bytes .now)) (c .before .before .before .args .offset) (sym (c .before .is-inside .ensures) ∙ c .if1 .taken) in omega arith)
     (λ c. let w = within 2 1 (length (c .before .before .before .args .section-bytes .now)) (c .before .before .before .args .offset) (sym (c .before .is-inside .ensures) ∙ c .if1 .taken) in omega arith)
-    (λ c κs. search needs)
     (λ c. search needs)
-    (λ c. simp (← c .before .before .is-inside .ensures, c .before .if1 .taken, c .done .ensures, toZ-ofZ {w = w64} (c .before .before .before .before .fits .addend)) (refl, refl))
-    (λ c. simp (← c .before .is-inside .ensures, c .if1 .left, toZ-ofZ {w = w64} (c .before .before .before .fits .addend)) (refl, refl)))
+    (λ c. simp (← c .before .is-inside .ensures, c .if1 .taken) (refl, refl))
+    (λ c. simp (← c .before .is-inside .ensures, c .if1 .left) (refl, refl)))

@@ -1,21 +1,18 @@
 -- `skip_desc_call` meets its contract.
 -- Assumes nothing.
+use Rattle.rewriting.specs.Apply.{attemptedBytes}
 use Rattle.rewriting.specs.Apply.{attempt}
-use Rattle.rules.specs.Rewrite.{afterRewriting}
 use borrow.Author.Needs.{needs}
-use mathlib.Core.Path.{refl}
-use mir.Facts.{toZ-ofZ}
-use mir.Syntax.{w64}
 use native.Mathlib.Nat.{sub-zero}
 use Rattle.rewriting.proofs.skip_desc_call.Statement.{statement}
 use Rattle.rewriting.proofs.skip_desc_call.Tie as tie
 
 pub skip-desc-call-spec : {M : Type 1} → statement M
-unfolding attempt afterRewriting
+unfolding attempt attemptedBytes
 skip-desc-call-spec =
     tie.close
     (tie.spec
     (λ c. search needs)
     (λ c κs. search needs)
     (λ c. search needs)
-    (λ c. simp sub-zero (simp (sub-zero, toZ-ofZ {w = w64} (c .before .before .before .before .before .before .fits .addend)) at (c .before .before .sequence .ensures))))
+    (λ c. simp sub-zero (simp sub-zero at (c .before .before .sequence .ensures))))

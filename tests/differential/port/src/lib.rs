@@ -53,16 +53,16 @@ pub struct ChoiceAnswer {
 #[derive(Debug, Default, Clone, Copy, PartialEq, Eq)]
 #[repr(C)]
 pub struct MovedAnswer {
-    pub refusal: u8,
     pub offset: u64,
+    pub refusal: u8,
     pub addend: i64,
 }
 
 #[derive(Debug, Default, Clone, Copy, PartialEq, Eq)]
 #[repr(C)]
 pub struct RelaxedAnswer {
-    pub choice: ChoiceAnswer,
     pub offset: u64,
+    pub choice: ChoiceAnswer,
     pub addend: i64,
 }
 
