@@ -1,53 +1,10 @@
--- The rules' answers of choosing, rewriting and relaxing in the exported layouts. Assumes nothing.
-use mathlib.Core.Bool.{Bool, true, false}
+-- The rules' answer of relaxing in the exported layout. Assumes nothing.
 use Prim.Native.Nat.{ℕ}
 use lib.IntN.{pos}
 use Rattle.rules.specs.Answer.{Answer, gives, refuses}
-use Rattle.rules.specs.Kinds as rules
-use Rattle.rules.specs.Kinds.{shapeOf, skips}
-use Rattle.rules.specs.Choose.{Choice, none, chosen, needsGotFallback}
-use Rattle.rules.specs.Rewrite.{Rewritten, Relaxed, unrelaxed, relaxed}
-use Rattle.relaxation_kind.specs.Kind.{kindOf}
-use Rattle.new_relaxation.specs.declared.Relaxation.{Relaxation}
-use Rattle.jitamoro.specs.declared.ChoiceAnswer.{ChoiceAnswer}
-use Rattle.jitamoro.specs.declared.MovedAnswer.{MovedAnswer}
+use Rattle.rules.specs.Rewrite.{Relaxed, unrelaxed, relaxed}
+use Rattle.jitamoro_alone.specs.Alone.{chosenNot, kindLayout}
 use Rattle.jitamoro.specs.declared.RelaxedAnswer.{RelaxedAnswer}
-
--- none (0), or a refusal
-abbrev pub chosenNot : ℕ → ChoiceAnswer
-chosenNot n =
-    record {
-      refusal = n;
-      chosen = false;
-      kind = 0;
-      «inst_offset» = 0;
-      mandatory = false;
-      «skip_next» = false;
-      «needs_got_fallback» = false;
-      «new_type» = 0;
-    }
-
-abbrev pub kindLayout : rules.RelaxationKind → ℕ → Bool → ChoiceAnswer
-kindLayout k t m =
-    record {
-      refusal = 0;
-      chosen = true;
-      kind = shapeOf k .number;
-      «inst_offset» = shapeOf k .inst;
-      mandatory = m;
-      «skip_next» = skips k;
-      «needs_got_fallback» = needsGotFallback t;
-      «new_type» = t;
-    }
-
-abbrev pub choiceLayout : Answer Choice → ChoiceAnswer
-choiceLayout (gives none) = chosenNot 0
-choiceLayout (gives (chosen k t m)) = kindLayout k t m
-choiceLayout (refuses n) = chosenNot n
-
-abbrev pub movedLayout : Answer Rewritten → MovedAnswer
-movedLayout (gives r) = record { refusal = 0; offset = r .offset; addend = r .addend }
-movedLayout (refuses n) = record { refusal = n; offset = 0; addend = pos 0 }
 
 abbrev pub relaxedNot : ℕ → RelaxedAnswer
 relaxedNot n = record { choice = chosenNot n; offset = 0; addend = pos 0 }
@@ -56,7 +13,3 @@ abbrev pub relaxedLayout : Answer Relaxed → RelaxedAnswer
 relaxedLayout (gives unrelaxed) = relaxedNot 0
 relaxedLayout (gives (relaxed k t m r)) = record { choice = kindLayout k t m; offset = r .offset; addend = r .addend }
 relaxedLayout (refuses n) = relaxedNot n
-
--- the code's own choice
-abbrev pub relaxationLayout : Relaxation → ChoiceAnswer
-relaxationLayout x = kindLayout (kindOf (x .kind)) (x .«new_type») (x .mandatory)

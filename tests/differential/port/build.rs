@@ -1,5 +1,5 @@
-//! Says where the port's static library lies: in JITAMORO_LIB_DIR, or else where
-//! `rt staticlib jitamoro` puts it.
+//! Says where the port's static libraries lie: in JITAMORO_LIB_DIR, or else where `rt staticlib`
+//! puts them.
 
 fn main() {
     let dir = std::env::var("JITAMORO_LIB_DIR").unwrap_or_else(|_| {
@@ -8,5 +8,6 @@ fn main() {
     });
     println!("cargo::rerun-if-env-changed=JITAMORO_LIB_DIR");
     println!("cargo::rerun-if-changed={dir}/libjitamoro.a");
+    println!("cargo::rerun-if-changed={dir}/libjitamoro_alone.a");
     println!("cargo::rustc-link-search=native={dir}");
 }

@@ -53,20 +53,20 @@ pub struct ChoiceAnswer {
 #[derive(Debug, Default, Clone, Copy, PartialEq, Eq)]
 #[repr(C)]
 pub struct MovedAnswer {
-    pub offset: u64,
     pub refusal: u8,
+    pub offset: u64,
     pub addend: i64,
 }
 
 #[derive(Debug, Default, Clone, Copy, PartialEq, Eq)]
 #[repr(C)]
 pub struct RelaxedAnswer {
-    pub offset: u64,
     pub choice: ChoiceAnswer,
+    pub offset: u64,
     pub addend: i64,
 }
 
-// Not bundled: the library is needed only where one of these functions is called.
+// Not bundled: a library is needed only where one of its functions is called.
 #[link(name = "jitamoro", kind = "static", modifiers = "-bundle")]
 unsafe extern "C" {
     pub safe fn jitamoro_output_kind(number: u8) -> OutputKindAnswer;
@@ -94,6 +94,23 @@ unsafe extern "C" {
     pub fn jitamoro_fill_section_padding(buf: *mut u8, len: usize, executable: bool);
 
     /// # Safety
+    /// `section` is valid for reads and writes of `len` bytes.
+    pub fn jitamoro_relax(
+        r_type: u32,
+        section: *mut u8,
+        len: usize,
+        offset: u64,
+        flags: u8,
+        output_kind: u8,
+        executable: bool,
+        address: u64,
+        addend: i64,
+    ) -> RelaxedAnswer;
+}
+
+#[link(name = "jitamoro_alone", kind = "static", modifiers = "-bundle")]
+unsafe extern "C" {
+    /// # Safety
     /// `section` is valid for reads of `len` bytes.
     pub fn jitamoro_new_relaxation(
         r_type: u32,
@@ -117,20 +134,6 @@ unsafe extern "C" {
         offset: u64,
         addend: i64,
     ) -> MovedAnswer;
-
-    /// # Safety
-    /// `section` is valid for reads and writes of `len` bytes.
-    pub fn jitamoro_relax(
-        r_type: u32,
-        section: *mut u8,
-        len: usize,
-        offset: u64,
-        flags: u8,
-        output_kind: u8,
-        executable: bool,
-        address: u64,
-        addend: i64,
-    ) -> RelaxedAnswer;
 }
 
 pub fn write_plt_entry(plt_entry: &mut [u8], got_address: u64, plt_address: u64) -> u8 {

@@ -3,8 +3,8 @@
 use mir.Facts.{toZ-ofZ}
 use mir.Syntax.{w64}
 use borrow.Author.Needs.{needs}
-use Rattle.jitamoro.proofs.jitamoro_new_relaxation.Statement.{statement}
-use Rattle.jitamoro.proofs.jitamoro_new_relaxation.Tie as tie
+use Rattle.jitamoro_alone.proofs.jitamoro_new_relaxation.Statement.{statement}
+use Rattle.jitamoro_alone.proofs.jitamoro_new_relaxation.Tie as tie
 
 pub jitamoro-new-relaxation-spec : {M : Type 1} → statement M
 jitamoro-new-relaxation-spec =

@@ -1,14 +1,14 @@
 -- `jitamoro_apply` meets its contract.
 -- Assumes nothing.
-use Rattle.jitamoro.proofs.Rewritten.{appliedLayout, laid}
+use Rattle.jitamoro_alone.proofs.Rewritten.{appliedLayout, laid}
 use Rattle.relaxation_kind.specs.Kind.{numbered}
 use Rattle.rules.specs.Rewrite.{rewriting}
 use mathlib.Core.Path.{sym, ap, _∙_}
 use mir.Facts.{toZ-ofZ}
 use mir.Syntax.{w64}
 use borrow.Author.Needs.{needs, sfits-of}
-use Rattle.jitamoro.proofs.jitamoro_apply.Statement.{statement}
-use Rattle.jitamoro.proofs.jitamoro_apply.Tie as tie
+use Rattle.jitamoro_alone.proofs.jitamoro_apply.Statement.{statement}
+use Rattle.jitamoro_alone.proofs.jitamoro_apply.Tie as tie
 
 pub jitamoro-apply-spec : {M : Type 1} → statement M
 jitamoro-apply-spec =

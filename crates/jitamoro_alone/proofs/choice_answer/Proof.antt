@@ -1,8 +1,8 @@
 -- `choice_answer` meets its contract, field by field.
 -- Assumes nothing.
 use borrow.Author.Needs.{needs}
-use Rattle.jitamoro.proofs.choice_answer.Statement.{statement}
-use Rattle.jitamoro.proofs.choice_answer.Tie as tie
+use Rattle.jitamoro_alone.proofs.choice_answer.Statement.{statement}
+use Rattle.jitamoro_alone.proofs.choice_answer.Tie as tie
 
 pub choice-answer-spec : {M : Type 1} → statement M
 choice-answer-spec =

@@ -7,8 +7,8 @@ use Rattle.rules.specs.Rewrite.{Rewritten}
 use Rattle.rewriting.specs.Apply.{appliedOf}
 use Rattle.rewriting.specs.declared.Applied.{Applied}
 use Rattle.rewriting.specs.declared.Applied.the-variants.{Done, Refused}
-use Rattle.jitamoro.specs.declared.MovedAnswer.{MovedAnswer}
-use Rattle.jitamoro.specs.Relaxing.{movedLayout}
+use Rattle.jitamoro_alone.specs.declared.MovedAnswer.{MovedAnswer}
+use Rattle.jitamoro_alone.specs.Alone.{movedLayout}
 
 abbrev pub appliedLayout : Applied → MovedAnswer
 appliedLayout (Done m) = record { refusal = 0; offset = m .offset; addend = m .addend }
