@@ -8,7 +8,7 @@ use Rattle.rules.specs.Kinds.{shapeOf, skips}
 use Rattle.rules.specs.Choose.{Choice, none, chosen, needsGotFallback}
 use Rattle.rules.specs.Rewrite.{Rewritten}
 use Rattle.relaxation_kind.specs.Kind.{kindOf}
-use Rattle.new_relaxation.specs.declared.Relaxation.{Relaxation}
+use Rattle.relaxation.specs.declared.Relaxation.{Relaxation}
 use Rattle.jitamoro_alone.specs.declared.ChoiceAnswer.{ChoiceAnswer}
 use Rattle.jitamoro_alone.specs.declared.MovedAnswer.{MovedAnswer}
 

@@ -8,7 +8,7 @@ ghost use Rattle.relaxation_kind.specs.Kind.{numbered};
 ghost use Rattle.jitamoro_alone.specs.Alone.{chosenNot, relaxationLayout, choiceLayout, movedLayout};
 use elf::RelocationModifier;
 use new_relaxation::Choice;
-use new_relaxation::Relaxation;
+use relaxation::Relaxation;
 use relaxation_kind::RelaxationKind;
 use rewriting::Applied;
 

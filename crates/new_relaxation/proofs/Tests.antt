@@ -1,6 +1,6 @@
--- Laws of tests, of an addend of −4, of a row that was looked up, and of the general dynamic forms.
+-- Laws of tests, of an addend of −4, and of the general dynamic forms.
 -- Assumes nothing.
-use mathlib.Core.Path.{_≡_, refl, ap, sym}
+use mathlib.Core.Path.{_≡_, refl}
 use mathlib.Core.Bool.{Bool, true, false, not, cond, _&&_, _||_}
 use mathlib.Core.List.{List, [], _∷_}
 use Prim.Native.Nat.{ℕ, suc, _-_}
@@ -11,13 +11,8 @@ use lib.IntN.{ℤ, pos, negsuc}
 use lib.ListN.{drop}
 use mir.Syntax.{w64}
 use mir.Val.{SFits, ofZ}
-use Rattle.rules.specs.Answer.{Answer, gives, refuses}
-use Rattle.rules.specs.Types.{Row, lookup}
 use Rattle.rules.specs.Kinds.{TlsGdToLocalExec, TlsGdToLocalExecLarge, TlsGdToInitialExec}
 use Rattle.rules.specs.Choose.{Choice, chosen, given, pick, startsWith, isMinus4}
-use Rattle.elf.proofs.Back.{row-back}
-use Rattle.x86_64.specs.declared.RelocationFound.{RelocationFound}
-use Rattle.x86_64.specs.Types.{foundOf, answerOf}
 use Rattle.new_relaxation.specs.declared.TlsGdForm.the-variants.{Regular, Large, RegularNoPlt, Unknown}
 use Rattle.new_relaxation.specs.Choices.{gdForm, gdChoice}
 
@@ -52,15 +47,6 @@ module _ (a b c d : ℕ) (to : a ≡ b → c ≡ d) (from : c ≡ d → a ≡ b)
 pub by-bits : (v : ℤ) → SFits w64 v → eqb (ofZ w64 v) 18446744073709551612 ≡ isMinus4 v
 by-bits (pos n) f = ne-eqb n 18446744073709551612 (λ e. omega arith)
 by-bits (negsuc n) f = eqb-same (18446744073709551616 - suc n) 18446744073709551612 n 3 (λ e. omega arith) (λ e. omega arith)
-
--- from the rules to the code and back
-found-back : (a : Answer Row) → answerOf (foundOf a) ≡ a
-found-back (gives r) = ap gives (row-back r)
-found-back (refuses n) = refl
-
--- what was looked up is the rules' row
-pub looked : (t : ℕ) (found : RelocationFound) → found ≡ foundOf (lookup t) → lookup t ≡ answerOf found
-looked t found e = rw (e, found-back (lookup t))
 
 -- the forms of a general dynamic sequence, tried in order, choose as the rule does
 abbrev Chosen : Bool → Bool → Bool → Bool → Choice

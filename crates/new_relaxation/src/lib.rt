@@ -1,4 +1,4 @@
-// elf_x86_64.rs: new_relaxation, TlsGdForm, and the accessors of Relaxation.
+// elf_x86_64.rs: new_relaxation and TlsGdForm.
 ghost use mathlib.Core.Path.{_≡_};
 ghost use mathlib.Core.Bool.{_&&_, _||_};
 ghost use Prim.Native.Nat.{_+_, _-_, _≤_};
@@ -6,18 +6,13 @@ ghost use lib.ListN.{length, drop, getD};
 ghost use Rattle.rules.specs.Answer.{gives};
 ghost use Rattle.rules.specs.Record.{isN, isA, isK, isF};
 ghost use Rattle.rules.specs.Range.{signed64};
-ghost use Rattle.rules.specs.Types.{lookup};
-ghost use Rattle.rules.specs.Kinds.{skips};
 ghost use Rattle.rules.specs.Choose.{isMinus4, isRexW, inRange, startsWith, rexGotpcrelx, gotpcrelx, gotpcrel, gottpoff, code6Gottpoff};
-ghost use Rattle.rules.specs.Choose.{tlsgd, tlsld, tlsdesc, byType, choose, choosing, needsGotFallback};
-ghost use Rattle.elf.specs.Elf.{skips as skipsNext};
+ghost use Rattle.rules.specs.Choose.{tlsgd, tlsld, tlsdesc, byType, choose, choosing};
 ghost use Rattle.output_kind.specs.Output.{outputNumber};
-ghost use Rattle.x86_64.specs.Types.{foundOf};
-ghost use Rattle.relaxation_kind.specs.Kind.{kindOf};
 ghost use Rattle.new_relaxation.specs.Choices.{choiceOf, relaxes, asked, instOf, rexAbsolute, movLoad, branchTo, tpoffLoad, noOp, gdForm, gdChoice, ldCall, isRex2W, descChoice, descCall, standsBefore};
-use elf::RelocationModifier;
 use output_kind::OutputKind;
 use output_kind::OutputKindFound;
+use relaxation::Relaxation;
 use relaxation_kind::RelaxationKind;
 use value_flags::ValueFlags;
 use value_flags::ValueFlagsFound;
@@ -28,13 +23,6 @@ const REX_W: u8 = 0x48;
 const REX_W_R: u8 = 0x4c;
 
 const REX2_PREFIX: u8 = 0xd5;
-
-pub struct Relaxation {
-    pub kind: RelaxationKind,
-    // The Rust keeps the row of this type, `rel_info`.
-    pub new_type: u32,
-    pub mandatory: bool,
-}
 
 pub enum Choice {
     Nothing,
@@ -48,41 +36,6 @@ struct Asked {
     output_kind: OutputKind,
     sym_addr: u64,
     rel_addend: i64,
-}
-
-impl Relaxation {
-    // The row of the new type.
-    pub fn rel_info(self) -> RelocationFound
-        ensures { λ r. ⌜ r ≡ foundOf (lookup (self .«new_type»)) ⌝ }
-    {
-        x86_64::relocation_from_raw(self.new_type)
-    }
-
-    pub fn next_modifier(self) -> RelocationModifier
-        ensures { λ r. ⌜ skipsNext r ≡ skips (kindOf (self .kind)) ⌝ }
-    {
-        let kind = self.kind;
-        kind.next_modifier()
-    }
-
-    pub fn is_mandatory(self) -> bool
-        ensures { λ r. ⌜ r ≡ self .mandatory ⌝ }
-    {
-        self.mandatory
-    }
-
-    // Whether the new type's kind is Absolute.
-    pub fn needs_got_fallback(self) -> bool
-        ensures { λ r. ⌜ r ≡ needsGotFallback (self .«new_type») ⌝ }
-    {
-        match self.rel_info() {
-            RelocationFound::Is(info) => {
-                let kind = info.kind;
-                kind.number() == 0
-            }
-            RelocationFound::Refused(_) => false,
-        }
-    }
 }
 
 // Chooses a relaxation for one record. Refusals 1 to 4.
@@ -260,9 +213,9 @@ fn rex_gotpcrelx(section_bytes: &[u8], offset: usize, q: Asked, inst_offset: u8)
     }
     let b1 = section_bytes[offset - 2];
     // REX prefixed instruction with W=1, R=0/1, X=0, B=0
-    let rex = is_rex_w(section_bytes[offset - 3]);
+    let rex_w = is_rex_w(section_bytes[offset - 3]);
     let relaxable = is_minus_4(q) & is_non_interposable(flags);
-    if rex {
+    if rex_w {
         if relaxable {
             let fixed = is_fixed(flags, output_kind);
             let mandatory = output_kind.is_static_executable();

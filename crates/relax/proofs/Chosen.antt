@@ -18,7 +18,7 @@ use Rattle.rules.specs.Rewrite.{Rewritten, relaxed, rewrite, rewriting, afterRe
 use Rattle.relaxation_kind.specs.Kind.{kindOf}
 use Rattle.rewriting.specs.Apply.{appliedOf}
 use Rattle.new_relaxation.specs.Choices.{choiceOf}
-use Rattle.new_relaxation.specs.declared.Relaxation.{Relaxation}
+use Rattle.relaxation.specs.declared.Relaxation.{Relaxation}
 use Rattle.new_relaxation.specs.declared.Choice.{Choice}
 use Rattle.new_relaxation.specs.declared.Choice.the-variants.{Nothing, Chosen, Refused}
 use Rattle.relax.specs.Relax.{relaxedOf, finished, then, chosenThen}

@@ -12,7 +12,7 @@ use Rattle.rules.specs.Rewrite.{Rewritten, rewriting, afterRewriting, relaxing}
 use Rattle.rules.specs.Meaning.{covered, Instruction, EndsAlike}
 use Rattle.rules.proofs.Theorem.{same-meaning}
 use Rattle.relaxation_kind.specs.Kind.{kindOf}
-use Rattle.new_relaxation.specs.declared.Relaxation.{Relaxation}
+use Rattle.relaxation.specs.declared.Relaxation.{Relaxation}
 use Rattle.rewriting.specs.declared.Moved.{Moved}
 use Rattle.rewriting.specs.declared.Applied.{Applied}
 use Rattle.rewriting.specs.declared.Applied.the-variants as applied

@@ -12,7 +12,7 @@ use Rattle.rules.specs.Rewrite.{Rewritten, rewriting}
 use Rattle.rules.specs.Meaning.{covered, Instruction, EndsAlike}
 use Rattle.relaxation_kind.specs.Kind.{kindOf}
 use Rattle.new_relaxation.specs.Choices.{choiceOf}
-use Rattle.new_relaxation.specs.declared.Relaxation.{Relaxation}
+use Rattle.relaxation.specs.declared.Relaxation.{Relaxation}
 use Rattle.new_relaxation.specs.declared.Choice.{Choice}
 use Rattle.new_relaxation.specs.declared.Choice.the-variants as choice
 use Rattle.rewriting.specs.declared.Moved.{Moved}

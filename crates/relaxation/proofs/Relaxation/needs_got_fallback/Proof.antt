@@ -1,10 +1,10 @@
 -- `needs_got_fallback` meets its contract.
 -- Assumes nothing.
-use Rattle.new_relaxation.proofs.Tests.{looked}
+use Rattle.relaxation.proofs.Looked.{looked}
 use Rattle.rules.specs.Choose.{needsGotFallback}
 use borrow.Author.Needs.{needs}
-use Rattle.new_relaxation.proofs.Relaxation.needs_got_fallback.Statement.{statement}
-use Rattle.new_relaxation.proofs.Relaxation.needs_got_fallback.Tie as tie
+use Rattle.relaxation.proofs.Relaxation.needs_got_fallback.Statement.{statement}
+use Rattle.relaxation.proofs.Relaxation.needs_got_fallback.Tie as tie
 
 pub needs-got-fallback-spec : {M : Type 1} → statement M
 unfolding needsGotFallback
