@@ -3,7 +3,6 @@ use mathlib.Core.Bool.{Bool, true, false}
 use Prim.Native.Nat.{ℕ}
 use lib.IntN.{pos}
 use Rattle.rules.specs.Answer.{Answer, gives, refuses}
-use Rattle.rules.specs.Kinds as rules
 use Rattle.rules.specs.Kinds.{shapeOf, skips}
 use Rattle.rules.specs.Choose.{Choice, none, chosen, needsGotFallback}
 use Rattle.rules.specs.Rewrite.{Rewritten}
@@ -11,6 +10,7 @@ use Rattle.relaxation_kind.specs.Kind.{kindOf}
 use Rattle.relaxation.specs.declared.Relaxation.{Relaxation}
 use Rattle.jitamoro_alone.specs.declared.ChoiceAnswer.{ChoiceAnswer}
 use Rattle.jitamoro_alone.specs.declared.MovedAnswer.{MovedAnswer}
+use Rattle.rules.specs.Kinds as rules
 
 -- none (0), or a refusal
 abbrev pub chosenNot : ℕ → ChoiceAnswer

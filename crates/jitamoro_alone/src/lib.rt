@@ -1,5 +1,5 @@
-// Choosing alone and rewriting alone, for C and Rust to call. They stand in a library of their own,
-// so that in the one for relaxing both have a single caller and become part of it.
+// Choosing alone and rewriting alone, for C and Rust to call. They are a library of their own so that
+// in the other one, for relaxing, choosing and rewriting have a single caller and are inlined.
 ghost use mathlib.Core.Path.{_≡_};
 ghost use Rattle.rules.specs.Choose.{choosing};
 ghost use Rattle.rules.specs.Rewrite.{rewriting, afterRewriting};

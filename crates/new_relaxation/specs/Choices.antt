@@ -8,8 +8,6 @@ use lib.ListN.{length, drop}
 use Rattle.rules.specs.Answer.{Answer, gives, refuses}
 use Rattle.rules.specs.Record.{isN, isS, isE}
 use Rattle.rules.specs.Range.{signed64}
-use Rattle.rules.specs.Kinds as rules
-use Rattle.rules.specs.Choose as rules-choose
 use Rattle.rules.specs.Choose.{none, chosen, given, pick, inRange, startsWith}
 use Rattle.relaxation_kind.specs.declared.RelaxationKind.{RelaxationKind}
 use Rattle.relaxation_kind.specs.Kind.{kindOf}
@@ -19,6 +17,8 @@ use Rattle.new_relaxation.specs.declared.Choice.{Choice}
 use Rattle.new_relaxation.specs.declared.Choice.the-variants.{Nothing, Chosen, Refused}
 use Rattle.new_relaxation.specs.declared.TlsGdForm.{TlsGdForm}
 use Rattle.new_relaxation.specs.declared.TlsGdForm.the-variants.{Regular, Large, RegularNoPlt, Unknown}
+use Rattle.rules.specs.Kinds as rules
+use Rattle.rules.specs.Choose as rules-choose
 
 -- the code's answer as the rules have it
 abbrev pub choiceOf : Choice → Answer rules-choose.Choice

@@ -10,10 +10,8 @@ use lib.IntN.{ℤ}
 use lib.ListN.{length}
 use Rattle.rules.specs.Answer.{Answer, gives, refuses}
 use Rattle.rules.specs.Record.{flagsAbove, kindAbove}
-use Rattle.rules.specs.Kinds.{RelaxationKind, RexAddIndirectToAbsolute, allowed, fits}
-use Rattle.rules.specs.Choose as rules
-use Rattle.rules.specs.Choose.{none, chosen, given, pick, tooLong, past, rexGotpcrelx, gotpcrelx, gotpcrel, gottpoff, code6Gottpoff, tlsgd, tlsld, tlsdesc}
-use Rattle.rules.specs.Choose.{byType, choose, choosing}
+use Rattle.rules.specs.Kinds.{RexAddIndirectToAbsolute, allowed, fits}
+use Rattle.rules.specs.Choose.{none, chosen, given, pick, tooLong, past, rexGotpcrelx, gotpcrelx, gotpcrel, gottpoff, code6Gottpoff, tlsgd, tlsld, tlsdesc, byType, choose, choosing}
 use Rattle.rules.specs.Rewrite.{Rewritten, relaxed, rewrite, rewriting, afterRewriting, relaxChosen, relaxing, afterRelaxing}
 use Rattle.relaxation_kind.specs.Kind.{kindOf}
 use Rattle.rewriting.specs.Apply.{appliedOf}
@@ -22,6 +20,7 @@ use Rattle.relaxation.specs.declared.Relaxation.{Relaxation}
 use Rattle.new_relaxation.specs.declared.Choice.{Choice}
 use Rattle.new_relaxation.specs.declared.Choice.the-variants.{Nothing, Chosen, Refused}
 use Rattle.relax.specs.Relax.{relaxedOf, finished, then, chosenThen}
+use Rattle.rules.specs.Choose as rules
 
 -- ---- every kind that is chosen is allowed
 

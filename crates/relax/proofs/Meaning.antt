@@ -1,33 +1,30 @@
 -- Demand 3 of one call, from the theorem about the rules: what the call answered, and the bytes it left, are the rules' own.
 -- Assumes nothing.
-use mathlib.Core.Path.{_≡_, refl, sym, ap, _∙_, subst}
+use mathlib.Core.Path.{_≡_, sym, ap, _∙_}
 use mathlib.Core.Bool.{Bool, true, false, false≢true}
 use mathlib.Core.List.{List}
 use Prim.Native.Nat.{ℕ}
-use lib.Dec.{T}
-use lib.IntN.{ℤ, negsuc}
+use lib.IntN.{ℤ}
 use Rattle.rules.specs.Answer.{Answer, gives, refuses}
-use Rattle.rules.specs.Choose.{choosing}
 use Rattle.rules.specs.Rewrite.{Rewritten, rewriting, afterRewriting, relaxing}
-use Rattle.rules.specs.Meaning.{covered, Instruction, EndsAlike}
 use Rattle.rules.proofs.Theorem.{same-meaning}
 use Rattle.relaxation_kind.specs.Kind.{kindOf}
 use Rattle.relaxation.specs.declared.Relaxation.{Relaxation}
 use Rattle.rewriting.specs.declared.Moved.{Moved}
 use Rattle.rewriting.specs.declared.Applied.{Applied}
-use Rattle.rewriting.specs.declared.Applied.the-variants as applied
 use Rattle.rewriting.specs.Apply.{appliedOf}
 use Rattle.relax.specs.declared.Relaxed.{Relaxed}
 use Rattle.relax.specs.Relax.{relaxedOf, rewrittenTo, RelaxingKeepsMeaning, RewritingKeepsMeaning}
+use Rattle.rewriting.specs.declared.Applied.the-variants as applied
 
 pub relaxing-keeps :
     (type : ℕ) (old : List ℕ) (off flags kind address : ℕ) (addend : ℤ) (executable : Bool) (r : Relaxed) (new : List ℕ)
     → relaxedOf r new ≡ relaxing old off flags kind address addend type executable
-    → RelaxingKeepsMeaning type old off addend r new
+    → RelaxingKeepsMeaning type old off r new
 relaxing-keeps type old off flags kind address addend executable r new e =
     record {
       alike =
-          λ a c i x m p. same-meaning .relaxes type old off flags kind address executable c i (kindOf (x .kind)) (x .«new_type») (x .mandatory) (rewrittenTo new m) (rw a at (rw p at (sym e)));
+          λ c i x m p. same-meaning .relaxes type old off flags kind address addend executable c i (kindOf (x .kind)) (x .«new_type») (x .mandatory) (rewrittenTo new m) (rw p at (sym e));
     }
 
 -- an answer of rewriting that is done, with the section as it is then, is what the rules give
@@ -52,5 +49,5 @@ pub rewriting-keeps :
 rewriting-keeps x old off addend r new e p =
     record {
       alike =
-          λ type flags kind address executable c a t i m d. same-meaning .rewrites type old off flags kind address executable t i (kindOf (x .kind)) (x .«new_type») (x .mandatory) (rewrittenTo new m) (rw a at (sym c)) (rw a at (gave old new m (rewriting (kindOf (x .kind)) old off addend) (sym d ∙ e) p));
+          λ type flags kind address executable c t i m d. same-meaning .rewrites type old off flags kind address addend executable t i (kindOf (x .kind)) (x .«new_type») (x .mandatory) (rewrittenTo new m) (sym c) (gave old new m (rewriting (kindOf (x .kind)) old off addend) (sym d ∙ e) p);
     }

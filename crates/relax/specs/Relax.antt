@@ -4,22 +4,22 @@ use mathlib.Core.Bool.{Bool}
 use mathlib.Core.List.{List}
 use Prim.Native.Nat.{ℕ}
 use lib.Dec.{T}
-use lib.IntN.{ℤ, negsuc}
+use lib.IntN.{ℤ}
 use Rattle.rules.specs.Answer.{Answer, gives, refuses}
 use Rattle.rules.specs.Choose.{choosing}
-use Rattle.rules.specs.Rewrite as rules
 use Rattle.rules.specs.Rewrite.{Rewritten, rewriting}
 use Rattle.rules.specs.Meaning.{covered, Instruction, EndsAlike}
 use Rattle.relaxation_kind.specs.Kind.{kindOf}
 use Rattle.new_relaxation.specs.Choices.{choiceOf}
 use Rattle.relaxation.specs.declared.Relaxation.{Relaxation}
 use Rattle.new_relaxation.specs.declared.Choice.{Choice}
-use Rattle.new_relaxation.specs.declared.Choice.the-variants as choice
 use Rattle.rewriting.specs.declared.Moved.{Moved}
 use Rattle.rewriting.specs.declared.Applied.{Applied}
-use Rattle.rewriting.specs.declared.Applied.the-variants as applied
 use Rattle.relax.specs.declared.Relaxed.{Relaxed}
 use Rattle.relax.specs.declared.Relaxed.the-variants.{Nothing, Done, Refused}
+use Rattle.rules.specs.Rewrite as rules
+use Rattle.new_relaxation.specs.declared.Choice.the-variants as choice
+use Rattle.rewriting.specs.declared.Applied.the-variants as applied
 
 -- where the field lies now, and the bytes that the section holds
 abbrev pub rewrittenTo : List ℕ → Moved → Rewritten
@@ -32,9 +32,9 @@ relaxedOf (Done x m) new = gives (rules.relaxed (kindOf (x .kind)) (x .«new_typ
 relaxedOf (Refused n) new = refuses n
 
 -- Demand 3, of a call of `relax`: "from any state, ends alike on the old instruction and on the relaxed and filled one"
-pub record RelaxingKeepsMeaning (type : ℕ) (old : List ℕ) (off : ℕ) (addend : ℤ) (r : Relaxed) (new : List ℕ) : Type 0 where
+pub record RelaxingKeepsMeaning (type : ℕ) (old : List ℕ) (off : ℕ) (r : Relaxed) (new : List ℕ) : Type 0 where
   pub alike :
-      addend ≡ negsuc 3 → T (covered type) → Instruction type old off
+      T (covered type) → Instruction type old off
       → (x : Relaxation) (m : Moved) → r ≡ Done x m
       → EndsAlike type old off (x .«new_type») (rewrittenTo new m)
 
@@ -43,7 +43,7 @@ pub record RewritingKeepsMeaning (x : Relaxation) (old : List ℕ) (off : ℕ) (
   pub alike :
       (type flags kind address : ℕ) (executable : Bool)
       → choiceOf (choice.Chosen x) ≡ choosing old off flags kind address addend type executable
-      → addend ≡ negsuc 3 → T (covered type) → Instruction type old off
+      → T (covered type) → Instruction type old off
       → (m : Moved) → r ≡ applied.Done m
       → EndsAlike type old off (x .«new_type») (rewrittenTo new m)
 

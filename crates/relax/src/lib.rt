@@ -1,4 +1,5 @@
-// Relaxing one record: choosing, then rewriting. Each contract ends with demand 3, same meaning, of what the call did.
+// Relaxing one record: choosing, then rewriting. Each public contract ends with demand 3, same
+// meaning, of what the call did.
 ghost use mathlib.Core.Path.{_≡_};
 ghost use Rattle.rules.specs.Rewrite.{rewriting, afterRewriting, relaxing, afterRelaxing};
 ghost use Rattle.relaxation_kind.specs.Kind.{kindOf};
@@ -28,7 +29,7 @@ pub fn relax(
 ) -> Relaxed
     ensures { λ r. ⌜ relaxedOf r (now («section_bytes» .exit)) ≡ relaxing (now («section_bytes» .entry)) «offset_in_section» flags «output_kind» «sym_addr» «rel_addend» «relocation_kind» executable ⌝ }
     ensures { λ _. ⌜ now («section_bytes» .exit) ≡ afterRelaxing (now («section_bytes» .entry)) (relaxing (now («section_bytes» .entry)) «offset_in_section» flags «output_kind» «sym_addr» «rel_addend» «relocation_kind» executable) ⌝ }
-    ensures { λ r. ⌜ RelaxingKeepsMeaning «relocation_kind» (now («section_bytes» .entry)) «offset_in_section» «rel_addend» r (now («section_bytes» .exit)) ⌝ }
+    ensures { λ r. ⌜ RelaxingKeepsMeaning «relocation_kind» (now («section_bytes» .entry)) «offset_in_section» r (now («section_bytes» .exit)) ⌝ }
 {
     let choice = new_relaxation::new_relaxation(
         relocation_kind,

@@ -2,8 +2,8 @@
 use mathlib.Core.List.{List, [], _∷_}
 use Prim.Native.Nat.{ℕ}
 use lib.ListN.{getD}
-use Rattle.rules.specs.Kinds as rules
 use Rattle.relaxation_kind.specs.declared.RelaxationKind.{RelaxationKind}
+use Rattle.rules.specs.Kinds as rules
 use Rattle.relaxation_kind.specs.declared.RelaxationKind.the-variants as kind
 
 abbrev pub kindOf : RelaxationKind → rules.RelaxationKind

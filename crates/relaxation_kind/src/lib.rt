@@ -103,7 +103,8 @@ impl RelaxationKind {
         }
     }
 
-    // The kind of a number. A number of no kind gives one that no instruction offset is allowed for.
+    // The kind of a number. A number of no kind gives RexMovIndirectToAbsolute(0), whose instruction
+    // offset is not allowed.
     pub fn from_number(number: u8, inst_offset: u8) -> RelaxationKind
         ensures { λ r. ⌜ kindOf r ≡ numbered number «inst_offset» ⌝ }
     {

@@ -3,16 +3,12 @@
 use mathlib.Core.Path.{_≡_, refl}
 use mathlib.Core.Bool.{Bool, true, false, cond}
 use mathlib.Core.List.{List}
-use Prim.Native.Nat.{ℕ, _+_, _-_, _≤_, zero-le}
+use Prim.Native.Nat.{ℕ, _+_, _-_, _≤_}
 use native.Mathlib.Omega.{arith}
-use lib.IntN.{ℤ}
 use lib.ListN.{length}
 use Rattle.rules.specs.Answer.{Answer, gives, refuses}
-use Rattle.rules.specs.Kinds.{RelaxationKind, MovIndirectToLea, MovIndirectToAbsolute, RexMovIndirectToAbsolute, RexAddIndirectToAbsolute, RexAddIndirectToLea}
-use Rattle.rules.specs.Kinds.{RexSubIndirectToAbsolute, RexCmpIndirectToAbsolute, CallIndirectToRelative, JmpIndirectToRelative, NoOp, TlsGdToLocalExec}
-use Rattle.rules.specs.Kinds.{TlsGdToLocalExecLarge, TlsLdToLocalExec, TlsLdToLocalExecNoPlt, TlsLdToLocalExec64, TlsGdToInitialExec, TlsDescToLocalExec}
-use Rattle.rules.specs.Kinds.{TlsDescToInitialExec, SkipTlsDescCall, shapeOf, allowed, fits}
-use Rattle.rules.specs.Rewrite.{Rewritten, newOffset, rewrite, afterRewriting}
+use Rattle.rules.specs.Kinds.{RelaxationKind, MovIndirectToLea, MovIndirectToAbsolute, RexMovIndirectToAbsolute, RexAddIndirectToAbsolute, RexAddIndirectToLea, RexSubIndirectToAbsolute, RexCmpIndirectToAbsolute, CallIndirectToRelative, JmpIndirectToRelative, NoOp, TlsGdToLocalExec, TlsGdToLocalExecLarge, TlsLdToLocalExec, TlsLdToLocalExecNoPlt, TlsLdToLocalExec64, TlsGdToInitialExec, TlsDescToLocalExec, TlsDescToInitialExec, SkipTlsDescCall, shapeOf, allowed, fits}
+use Rattle.rules.specs.Rewrite.{Rewritten, newOffset, afterRewriting}
 use Rattle.rewriting.specs.declared.Applied.the-variants.{Done, Refused}
 use Rattle.rewriting.specs.Apply.{appliedOf, attemptOf, bytesOf, attempt}
 use Rattle.rewriting.proofs.Window.{within}

@@ -1,6 +1,6 @@
 -- Single stores against `sets`: the steps of writing a fixed byte string, and the bytes before an offset.
 -- Assumes nothing.
-use mathlib.Core.Path.{_≡_, refl, ap}
+use mathlib.Core.Path.{_≡_}
 use mathlib.Core.List.{List, [], _∷_}
 use Prim.Native.Nat.{ℕ, suc, _+_, _-_, _/_, _%_, _<_, _≤_}
 use native.Mathlib.Numerals.{add-one}
@@ -8,7 +8,7 @@ use native.Mathlib.Nat.{add-suc}
 use native.Mathlib.Omega.{arith}
 use lib.ListN.{length, getD, drop, set, drop-of-length-le}
 use lib.Seq.{drop-cons, sets, getD-set-other}
-use Rattle.rewriting.specs.Apply.{registerFormSet, prefixedSet}
+use Rattle.rewriting.specs.Apply.{registerFormSet}
 
 module _ (s p : List ℕ) (at i : ℕ) where
   pub step : i < length p → sets s (at + i) (drop i p) ≡ sets (set s (at + i) (getD p i 0)) (at + (i + 1)) (drop (i + 1) p)

@@ -1,4 +1,4 @@
--- What a window that lies inside says of the offset and the length; and a test that is false already.
+-- What a window that lies inside says of the offset and the length; and `||` with false.
 -- Assumes nothing.
 use mathlib.Core.Path.{_≡_, refl}
 use mathlib.Core.Bool.{Bool, true, false, _&&_, _||_, false≢true}

@@ -18,6 +18,7 @@ abbrev pub appliedOf : Answer Rewritten → Applied
 appliedOf (gives r) = Done (record { offset = r .offset; addend = r .addend })
 appliedOf (refuses n) = Refused n
 
+-- where the field lies, and its addend
 abbrev pub movedTo : RelaxationKind → ℕ → ℤ → Moved
 movedTo k o a = record { offset = newOffset k o; addend = newAddend k a }
 
@@ -31,9 +32,11 @@ attemptOf allowed inside = cond allowed (cond inside 0 6) 5
 abbrev pub bytesOf : Bool → Bool → List ℕ → List ℕ → List ℕ
 bytesOf allowed inside new old = cond allowed (cond inside new old) old
 
+-- of a kind: 0, or 5 or 6
 unfoldable pub attempt : RelaxationKind → List ℕ → ℕ → ℕ
 attempt k sec off = attemptOf (allowed k) (fits k (length sec) off)
 
+-- of a kind: the bytes then
 unfoldable pub attemptedBytes : RelaxationKind → List ℕ → ℕ → List ℕ
 attemptedBytes k sec off = bytesOf (allowed k) (fits k (length sec) off) (rewritten k sec off) sec
 
@@ -43,15 +46,22 @@ attemptedBytes k sec off = bytesOf (allowed k) (fits k (length sec) off) (rewrit
 abbrev pub inside : ℕ → ℕ → ℕ → ℕ → Bool
 inside back size len o = leb back o && leb (o - back + size) len
 
+-- of a window, with no instruction offset asked: the number, and the bytes
 abbrev pub windowed : ℕ → ℕ → List ℕ → ℕ → ℕ
 windowed back size sec off = attemptOf true (inside back size (length sec) off)
 
 abbrev pub windowedBytes : ℕ → ℕ → List ℕ → ℕ → List ℕ → List ℕ
 windowedBytes back size sec off new = bytesOf true (inside back size (length sec) off) new sec
 
+-- "Instruction offsets allowed: 3 and 4"
+abbrev pub isPrefixed : ℕ → Bool
+isPrefixed n = eqb n 3 || eqb n 4
+
+-- an opcode, and its ModRM byte in register form
 abbrev pub registerFormSet : ℕ → ℕ → List ℕ → ℕ → List ℕ
 registerFormSet op base sec off = sets sec (off - 2) (op ∷ (base + getD sec (off - 1) 0 / 8 % 8) ∷ [])
 
+-- the same after a prefix whose register bits move
 abbrev pub prefixedSet : ℕ → ℕ → ℕ → List ℕ → ℕ → List ℕ
 prefixedSet n op base sec off =
     sets sec (off - 3) (moved n (getD sec (off - 3) 0) ∷ op ∷ (base + getD sec (off - 1) 0 / 8 % 8) ∷ [])

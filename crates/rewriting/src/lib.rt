@@ -1,19 +1,18 @@
 // x86_64.rs: RelaxationKind::apply.
 ghost use mathlib.Core.Path.{_≡_};
-ghost use mathlib.Core.Bool.{_||_};
 ghost use mathlib.Core.List.{[], _∷_};
 ghost use Prim.Native.Nat.{_+_, _-_, _/_, _%_, _≤_};
-ghost use lib.Dec.{eqb};
 ghost use lib.ListN.{length};
 ghost use lib.Seq.{sets};
-ghost use Rattle.rules.specs.Kinds.{MovIndirectToAbsolute, RexAddIndirectToAbsolute, RexAddIndirectToLea, CallIndirectToRelative, JmpIndirectToRelative};
+ghost use Rattle.rules.specs.Kinds.{MovIndirectToAbsolute, RexMovIndirectToAbsolute, RexAddIndirectToAbsolute, RexAddIndirectToLea};
+ghost use Rattle.rules.specs.Kinds.{RexSubIndirectToAbsolute, RexCmpIndirectToAbsolute, CallIndirectToRelative, JmpIndirectToRelative};
 ghost use Rattle.rules.specs.Kinds.{TlsGdToLocalExec, TlsGdToLocalExecLarge, TlsLdToLocalExec, TlsLdToLocalExecNoPlt, TlsLdToLocalExec64};
 ghost use Rattle.rules.specs.Kinds.{TlsGdToInitialExec, SkipTlsDescCall, shapeOf};
 ghost use Rattle.rules.specs.Rewrite.{rexMoved, rex2Moved, rexCopied, evexMoved, moved, based, evexToAbsolute, rewritten, newOffset};
 ghost use Rattle.rules.specs.Rewrite.{rewriting, afterRewriting};
 ghost use Rattle.relaxation_kind.specs.Kind.{kindOf};
 ghost use Rattle.rewriting.specs.Apply.{appliedOf, movedTo, inside, attemptOf, bytesOf, attempt, attemptedBytes, windowed, windowedBytes};
-ghost use Rattle.rewriting.specs.Apply.{registerFormSet, prefixedSet};
+ghost use Rattle.rewriting.specs.Apply.{isPrefixed, registerFormSet, prefixedSet};
 use relaxation_kind::RelaxationKind;
 
 // Where the field lies now, and its addend.
@@ -61,42 +60,24 @@ fn rewrite(kind: RelaxationKind, section_bytes: &mut [u8], offset: usize) -> u8
         // Since the value is an address, a PC-relative mov becomes a PC-relative lea.
         RelaxationKind::MovIndirectToLea => set_opcode(section_bytes, offset, 0x8d),
         RelaxationKind::MovIndirectToAbsolute => mov_to_absolute(section_bytes, offset),
-        RelaxationKind::RexMovIndirectToAbsolute(n) => to_absolute(
-            section_bytes,
-            offset,
-            n,
-            0xc7,
-            0xc0,
-        ),
-        RelaxationKind::RexAddIndirectToAbsolute(n) => add_to_absolute(section_bytes, offset, n),
-        RelaxationKind::RexAddIndirectToLea(n) => add_to_lea(section_bytes, offset, n),
-        RelaxationKind::RexSubIndirectToAbsolute(n) => to_absolute(
-            section_bytes,
-            offset,
-            n,
-            0x81,
-            0xe8,
-        ),
-        RelaxationKind::RexCmpIndirectToAbsolute(n) => to_absolute(
-            section_bytes,
-            offset,
-            n,
-            0x81,
-            0xf8,
-        ),
+        RelaxationKind::RexMovIndirectToAbsolute(n) => rex_mov(section_bytes, offset, n),
+        RelaxationKind::RexAddIndirectToAbsolute(n) => rex_add(section_bytes, offset, n),
+        RelaxationKind::RexAddIndirectToLea(n) => rex_add_to_lea(section_bytes, offset, n),
+        RelaxationKind::RexSubIndirectToAbsolute(n) => rex_sub(section_bytes, offset, n),
+        RelaxationKind::RexCmpIndirectToAbsolute(n) => rex_cmp(section_bytes, offset, n),
         RelaxationKind::CallIndirectToRelative => call_to_relative(section_bytes, offset),
         RelaxationKind::JmpIndirectToRelative => jmp_to_relative(section_bytes, offset),
-        RelaxationKind::NoOp => 0,
         RelaxationKind::TlsGdToLocalExec => gd_to_local_exec(section_bytes, offset),
         RelaxationKind::TlsGdToLocalExecLarge => gd_to_local_exec_large(section_bytes, offset),
+        RelaxationKind::TlsGdToInitialExec => gd_to_initial_exec(section_bytes, offset),
         RelaxationKind::TlsLdToLocalExec => ld_to_local_exec(section_bytes, offset),
         RelaxationKind::TlsLdToLocalExecNoPlt => ld_to_local_exec_no_plt(section_bytes, offset),
         RelaxationKind::TlsLdToLocalExec64 => ld_to_local_exec_64(section_bytes, offset),
-        RelaxationKind::TlsGdToInitialExec => gd_to_initial_exec(section_bytes, offset),
-        RelaxationKind::TlsDescToLocalExec(n) => to_absolute(section_bytes, offset, n, 0xc7, 0xc0),
+        RelaxationKind::TlsDescToLocalExec(n) => rex_mov(section_bytes, offset, n),
         // lea becomes mov, with the same prefix and addressing mode.
         RelaxationKind::TlsDescToInitialExec => set_opcode(section_bytes, offset, 0x8b),
         RelaxationKind::SkipTlsDescCall => skip_desc_call(section_bytes, offset),
+        RelaxationKind::NoOp => 0,
     }
 }
 
@@ -121,7 +102,7 @@ fn move_field(kind: RelaxationKind, offset: u64, addend: i64) -> Moved
     }
 }
 
-// The new offset of a field at offset 1: a jmp is 1 byte shorter, thread-local fields move on.
+// How far the offset moves, plus 1, since a jmp is 1 byte shorter: the new offset of a field at 1.
 fn field_at_1(kind: RelaxationKind) -> u64
     ensures { λ r. ⌜ r ≡ newOffset (kindOf kind) 1 ⌝ }
 {
@@ -311,11 +292,11 @@ fn mov_to_absolute(section_bytes: &mut [u8], offset: usize) -> u8
     6
 }
 
-// The same with a REX or REX2 prefix, whose register bits move; mov, add, sub and cmp by opcode and base.
+// With a REX or REX2 prefix, whose register bits move: mov, add, sub and cmp by opcode and base.
 fn to_absolute(section_bytes: &mut [u8], offset: usize, inst_offset: u8, opcode: u8, base: u8) -> u8
     requires { ⌜ base % 8 ≡ 0 ⌝ }
-    ensures { λ r. ⌜ r ≡ attemptOf (eqb «inst_offset» 3 || eqb «inst_offset» 4) (inside 3 3 (length (now («section_bytes» .entry))) offset) ⌝ }
-    ensures { λ _. ⌜ now («section_bytes» .exit) ≡ bytesOf (eqb «inst_offset» 3 || eqb «inst_offset» 4) (inside 3 3 (length (now («section_bytes» .entry))) offset) (prefixedSet «inst_offset» opcode base (now («section_bytes» .entry)) offset) (now («section_bytes» .entry)) ⌝ }
+    ensures { λ r. ⌜ r ≡ attemptOf (isPrefixed «inst_offset») (inside 3 3 (length (now («section_bytes» .entry))) offset) ⌝ }
+    ensures { λ _. ⌜ now («section_bytes» .exit) ≡ bytesOf (isPrefixed «inst_offset») (inside 3 3 (length (now («section_bytes» .entry))) offset) (prefixedSet «inst_offset» opcode base (now («section_bytes» .entry)) offset) (now («section_bytes» .entry)) ⌝ }
 {
     let allowed = (inst_offset == 3) | (inst_offset == 4);
     if allowed {
@@ -329,20 +310,44 @@ fn to_absolute(section_bytes: &mut [u8], offset: usize, inst_offset: u8, opcode:
     5
 }
 
+// mov *x(%rip), reg -> mov x, reg
+fn rex_mov(section_bytes: &mut [u8], offset: usize, inst_offset: u8) -> u8
+    ensures { λ r. ⌜ r ≡ attempt (RexMovIndirectToAbsolute «inst_offset») (now («section_bytes» .entry)) offset ⌝ }
+    ensures { λ _. ⌜ now («section_bytes» .exit) ≡ attemptedBytes (RexMovIndirectToAbsolute «inst_offset») (now («section_bytes» .entry)) offset ⌝ }
+{
+    to_absolute(section_bytes, offset, inst_offset, 0xc7, 0xc0)
+}
+
+// sub *x(%rip), reg -> sub x, reg
+fn rex_sub(section_bytes: &mut [u8], offset: usize, inst_offset: u8) -> u8
+    ensures { λ r. ⌜ r ≡ attempt (RexSubIndirectToAbsolute «inst_offset») (now («section_bytes» .entry)) offset ⌝ }
+    ensures { λ _. ⌜ now («section_bytes» .exit) ≡ attemptedBytes (RexSubIndirectToAbsolute «inst_offset») (now («section_bytes» .entry)) offset ⌝ }
+{
+    to_absolute(section_bytes, offset, inst_offset, 0x81, 0xe8)
+}
+
+// cmp *x(%rip), reg -> cmp x, reg
+fn rex_cmp(section_bytes: &mut [u8], offset: usize, inst_offset: u8) -> u8
+    ensures { λ r. ⌜ r ≡ attempt (RexCmpIndirectToAbsolute «inst_offset») (now («section_bytes» .entry)) offset ⌝ }
+    ensures { λ _. ⌜ now («section_bytes» .exit) ≡ attemptedBytes (RexCmpIndirectToAbsolute «inst_offset») (now («section_bytes» .entry)) offset ⌝ }
+{
+    to_absolute(section_bytes, offset, inst_offset, 0x81, 0xf8)
+}
+
 // add *x(%rip), reg -> add x, reg
-fn add_to_absolute(section_bytes: &mut [u8], offset: usize, inst_offset: u8) -> u8
+fn rex_add(section_bytes: &mut [u8], offset: usize, inst_offset: u8) -> u8
     ensures { λ r. ⌜ r ≡ attempt (RexAddIndirectToAbsolute «inst_offset») (now («section_bytes» .entry)) offset ⌝ }
     ensures { λ _. ⌜ now («section_bytes» .exit) ≡ attemptedBytes (RexAddIndirectToAbsolute «inst_offset») (now («section_bytes» .entry)) offset ⌝ }
 {
     if inst_offset == 6 {
-        evex_add_to_absolute(section_bytes, offset)
+        evex_add(section_bytes, offset)
     } else {
         to_absolute(section_bytes, offset, inst_offset, 0x81, 0xc0)
     }
 }
 
 // The same with an EVEX prefix.
-fn evex_add_to_absolute(section_bytes: &mut [u8], offset: usize) -> u8
+fn evex_add(section_bytes: &mut [u8], offset: usize) -> u8
     ensures { λ r. ⌜ r ≡ attempt (RexAddIndirectToAbsolute 6) (now («section_bytes» .entry)) offset ⌝ }
     ensures { λ _. ⌜ now («section_bytes» .exit) ≡ attemptedBytes (RexAddIndirectToAbsolute 6) (now («section_bytes» .entry)) offset ⌝ }
 {
@@ -355,7 +360,7 @@ fn evex_add_to_absolute(section_bytes: &mut [u8], offset: usize) -> u8
 }
 
 // add x(%rip), reg -> lea x(reg), reg
-fn add_to_lea(section_bytes: &mut [u8], offset: usize, inst_offset: u8) -> u8
+fn rex_add_to_lea(section_bytes: &mut [u8], offset: usize, inst_offset: u8) -> u8
     ensures { λ r. ⌜ r ≡ attempt (RexAddIndirectToLea «inst_offset») (now («section_bytes» .entry)) offset ⌝ }
     ensures { λ _. ⌜ now («section_bytes» .exit) ≡ attemptedBytes (RexAddIndirectToLea «inst_offset») (now («section_bytes» .entry)) offset ⌝ }
 {
@@ -439,6 +444,19 @@ fn gd_to_local_exec_large(section_bytes: &mut [u8], offset: usize) -> u8
     )
 }
 
+// mov %fs:0,%rax; add *x,%rax
+fn gd_to_initial_exec(section_bytes: &mut [u8], offset: usize) -> u8
+    ensures { λ r. ⌜ r ≡ attempt TlsGdToInitialExec (now («section_bytes» .entry)) offset ⌝ }
+    ensures { λ _. ⌜ now («section_bytes» .exit) ≡ attemptedBytes TlsGdToInitialExec (now («section_bytes» .entry)) offset ⌝ }
+{
+    sequence(
+        section_bytes,
+        offset,
+        4,
+        b"\x64\x48\x8b\x04\x25\x00\x00\x00\x00\x48\x03\x05",
+    )
+}
+
 // mov %fs:0,%rax
 fn ld_to_local_exec(section_bytes: &mut [u8], offset: usize) -> u8
     ensures { λ r. ⌜ r ≡ attempt TlsLdToLocalExec (now («section_bytes» .entry)) offset ⌝ }
@@ -475,19 +493,6 @@ fn ld_to_local_exec_64(section_bytes: &mut [u8], offset: usize) -> u8
         offset,
         3,
         b"\x66\x66\x66\x66\x2e\x0f\x1f\x84\x00\x00\x00\x00\x00\x64\x48\x8b\x04\x25\x00\x00\x00\x00",
-    )
-}
-
-// mov %fs:0,%rax; add *x,%rax
-fn gd_to_initial_exec(section_bytes: &mut [u8], offset: usize) -> u8
-    ensures { λ r. ⌜ r ≡ attempt TlsGdToInitialExec (now («section_bytes» .entry)) offset ⌝ }
-    ensures { λ _. ⌜ now («section_bytes» .exit) ≡ attemptedBytes TlsGdToInitialExec (now («section_bytes» .entry)) offset ⌝ }
-{
-    sequence(
-        section_bytes,
-        offset,
-        4,
-        b"\x64\x48\x8b\x04\x25\x00\x00\x00\x00\x48\x03\x05",
     )
 }
 

@@ -13,7 +13,7 @@ use Rattle.rules.specs.Answer.{Answer, gives, refuses}
 use Rattle.rules.specs.Range.{byteRange, signed64}
 use Rattle.rules.specs.Types.{lookup, earlierTypes, laterTypes}
 use Rattle.rules.specs.Choose.{given, pick, inRange, rexGotpcrelx, gotpcrelx, gotpcrel, gottpoff, choose, choosing}
-use Rattle.rules.specs.Rewrite.{Relaxed, unrelaxed, relaxed, rexMoved, rex2Moved, relaxChosen, relaxing, Holds, Filled}
+use Rattle.rules.specs.Rewrite.{rewriting, Relaxed, unrelaxed, relaxed, rexMoved, rex2Moved, relaxChosen, relaxing, Holds, Filled}
 use Rattle.rules.specs.Machine.{signed32, field4, read4, read8, write8, put, exec, push, decode, step, addFlags, subFlags, ripRelative}
 use Rattle.rules.specs.Meaning.{covered, head, begins, Instruction, slotValue}
 use Rattle.rules.specs.Instances.{Case, stateOf, relaxingOf, filling, fill, fills, meets, Instance, Worked}
@@ -67,7 +67,7 @@ module _ (c : Case) (covers : T (covered (c .type))) (i : Instruction (c .type) 
         relaxes = e;
         new = fill x (r .offset) (r .bytes);
         filled = f;
-        alike = same-meaning .relaxes (c .type) (c .section) (c .offset) (c .flags) (c .kind) (c .address) true covers i k n m r e (c .base) (stateOf c) (fill x (r .offset) (r .bytes)) f;
+        alike = same-meaning .relaxes (c .type) (c .section) (c .offset) (c .flags) (c .kind) (c .address) (negsuc 3) true covers i k n m r e (c .base) (stateOf c) (fill x (r .offset) (r .bytes)) f;
       }
 
 instance : (c : Case) → T (meets c) → Instance c
@@ -92,12 +92,13 @@ instance c t =
     (relaxingOf c) refl (and-right (a && b && d && e && f) g t)
 
 pub worked : Worked
-unfolding byteRange signed64 earlierTypes laterTypes lookup given pick inRange rexGotpcrelx gotpcrelx gotpcrel gottpoff choose choosing rexMoved rex2Moved relaxChosen relaxing signed32 field4 read4 read8 write8 put exec push decode step
+unfolding byteRange signed64 earlierTypes laterTypes lookup given pick inRange rexGotpcrelx gotpcrelx gotpcrel gottpoff choose choosing rewriting rexMoved rex2Moved relaxChosen relaxing signed32 field4 read4 read8 write8 put exec push decode step
 worked =
     record {
       all = refl;
       instances = λ c e. instance c (subst T (sym e) tt);
       kinds = refl;
+      steps = refl;
       r13 = refl;
       rbp = refl;
       r16 = refl;

@@ -9,36 +9,41 @@ use Prim.Native.Nat.{ℕ, _+_, _-_, _≤_}
 use native.Mathlib.Omega.{arith}
 use lib.Dec.{T, leb, ltb, eqb, eqb→eq}
 use lib.ListN.{length, getD}
-use lib.IntN.{ℤ, negsuc}
+use lib.IntN.{ℤ, pos, negsuc}
 use Rattle.rules.specs.Answer.{Answer, gives, refuses}
-use Rattle.rules.specs.Record.{ifunc}
+use Rattle.rules.specs.Record.{ifunc, isN, isK, isF}
 use Rattle.rules.specs.Kinds.{RelaxationKind, MovIndirectToLea, allowed, fits}
-use Rattle.rules.specs.Choose.{Choice, none, chosen, given, pick, isRexW, rexGotpcrelx, gotpcrelx, gotpcrel, gottpoff, choose, choosing}
+use Rattle.rules.specs.Choose.{Choice, none, chosen, given, pick, isRexW, isMinus4, rexGotpcrelx, gotpcrelx, gotpcrel, gottpoff, choose, choosing}
 use Rattle.rules.specs.Rewrite.{toAbsolute, Rewritten, Relaxed, unrelaxed, relaxed, rewrite, rewriting, relaxChosen, relaxing}
 use Rattle.rules.specs.Machine.{ripRelative}
 use Rattle.rules.specs.Meaning.{covered, Instruction, EndsAlike, SameMeaning}
-use Rattle.rules.proofs.Arith.{and-right}
+use Rattle.rules.proofs.Arith.{and-left, and-right}
 use Rattle.rules.proofs.Forms.{In, addendFor, either, is}
 use Rattle.rules.proofs.Places.{ops, oldOps, newOps, digits, newTypes, abs2, abs3, abs4, lea-at-2, lea-at-3, lea-at-4, call-at, jmp-at}
 
 -- what a choice means, as a record, so that the choice can be read off its type
-abbrev Means : ℕ → List ℕ → ℕ → Choice → Type 0
-Means type sec off none = Unit {0}
-Means type sec off (chosen k t m) = EndsAlike type sec off t (rewrite k sec off (negsuc 3))
+abbrev Means : ℕ → List ℕ → ℕ → ℤ → Choice → Type 0
+Means type sec off a none = Unit {0}
+Means type sec off a (chosen k t m) = EndsAlike type sec off t (rewrite k sec off a)
 
-record Sound (type : ℕ) (sec : List ℕ) (off : ℕ) (c : Choice) : Type 0 where
-  means : Means type sec off c
+record Sound (type : ℕ) (sec : List ℕ) (off : ℕ) (a : ℤ) (c : Choice) : Type 0 where
+  means : Means type sec off a c
 
-nothing : {type : ℕ} {sec : List ℕ} {off : ℕ} → Sound type sec off none
+nothing : {type : ℕ} {sec : List ℕ} {off : ℕ} {a : ℤ} → Sound type sec off a none
 nothing = record { means = tt }
 
-module _ {type : ℕ} {sec : List ℕ} {off : ℕ} where
-  by-given : (c : Bool) {x : Choice} → (T c → Sound type sec off x) → Sound type sec off (given c x)
+-- the rules that keep the addend ask that it is −4
+at-4 : {type : ℕ} {sec : List ℕ} {off : ℕ} {x : Choice} (a : ℤ) → T (isMinus4 a) → Sound type sec off (negsuc 3) x → Sound type sec off a x
+at-4 (pos n) t m = absurd t
+at-4 {type} {sec} {off} {x} (negsuc n) t m = subst (λ (k : ℕ). Sound type sec off (negsuc k) x) (sym (eqb→eq n 3 t)) m
+
+module _ {type : ℕ} {sec : List ℕ} {off : ℕ} {a : ℤ} where
+  by-given : (c : Bool) {x : Choice} → (T c → Sound type sec off a x) → Sound type sec off a (given c x)
   unfolding given
   by-given true f = f tt
   by-given false f = record { means = tt }
 
-  by-pick : (c : Bool) {x y : Choice} → (T c → Sound type sec off x) → Sound type sec off y → Sound type sec off (pick c x y)
+  by-pick : (c : Bool) {x y : Choice} → (T c → Sound type sec off a x) → Sound type sec off a y → Sound type sec off a (pick c x y)
   unfolding pick
   by-pick true f m = f tt
   by-pick false f m = m
@@ -59,7 +64,7 @@ mov-23 = inr (inr (inr (inl refl)))
 add-23 : In 4 ops
 add-23 = inr (inr (inr (inr (inl refl))))
 
-module _ (sec : List ℕ) (off flags kind address : ℕ) where
+module _ (sec : List ℕ) (off flags kind address : ℕ) (a : ℤ) where
   -- the prefix test that the choice makes
   pre : T (leb 3 off && isRexW (getD sec (off - 3) 0)) → T (isRexW (getD sec (off - 3) 0))
   pre g = and-right (leb 3 off) (isRexW (getD sec (off - 3) 0)) g
@@ -79,18 +84,18 @@ module _ (sec : List ℕ) (off flags kind address : ℕ) where
       T (isRexW (getD sec (off - 3) 0)) → getD sec (off - 2) 0 ≡ 0x8B → EndsAlike type sec off 2 (rewrite MovIndirectToLea sec off (negsuc 3))
 
   -- 42 and 43
-  rex : (type n : ℕ) → Absolute type n → Lea type → Sound type sec off (rexGotpcrelx sec off flags kind address (negsuc 3) n)
+  rex : (type n : ℕ) → Absolute type n → Lea type → Sound type sec off a (rexGotpcrelx sec off flags kind address a n)
   unfolding rexGotpcrelx
   rex type n absolute lea =
-      by-given _ λ g. by-given _ λ _. by-pick _
+      by-given _ λ g. by-given _ λ f. at-4 a (and-left (isMinus4 a) (isN flags) f) (by-pick _
       (λ _. by-given _ λ _.
       by-pick _ (λ o. record { means = absolute 0 mov-11 (eqb→eq _ _ o) (pre g) })
       (by-pick _ (λ o. record { means = absolute 1 sub-11 (eqb→eq _ _ o) (pre g) })
       (by-given _ λ o. record { means = absolute 2 cmp-11 (eqb→eq _ _ o) (pre g) })))
-      (by-given _ λ o. record { means = lea (pre g) (eqb→eq _ _ o) })
+      (by-given _ λ o. record { means = lea (pre g) (eqb→eq _ _ o) }))
 
   -- 22 and 44, for which the instruction offset is not 6
-  thread : (type n : ℕ) → eqb n 6 ≡ false → Absolute type n → Sound type sec off (gottpoff sec off flags kind address (negsuc 3) n)
+  thread : (type n : ℕ) → eqb n 6 ≡ false → Absolute type n → Sound type sec off a (gottpoff sec off flags kind address a n)
   unfolding gottpoff
   thread type n e absolute =
       by-given _ λ _. by-given _ λ g.
@@ -110,22 +115,22 @@ module _ (sec : List ℕ) (off flags kind address : ℕ) where
     lea-rex2 : 4 ≤ off → T (eqb (getD sec (off - 4) 0) 0xD5) → Lea 43
     lea-rex2 low d g o base s new c = lea-at-4 sec new off base s whole low (eqb→eq _ _ d) g o rip c
 
-  nine : Instruction 9 sec off → Sound 9 sec off (gotpcrel sec off flags kind address (negsuc 3))
+  nine : Instruction 9 sec off → Sound 9 sec off a (gotpcrel sec off flags kind address a)
   unfolding gotpcrel
   nine i =
-      by-given _ λ _. by-given _ λ g.
-      by-given _ λ o. record { means = lea-rex (i .whole) (i .rip) (i .low) (pre g) (eqb→eq _ _ o) }
+      by-given _ λ f. at-4 a (and-right (isN flags && (isK flags || isF kind)) (isMinus4 a) f) (by-given _ λ g.
+      by-given _ λ o. record { means = lea-rex (i .whole) (i .rip) (i .low) (pre g) (eqb→eq _ _ o) })
 
-  plain : Instruction 41 sec off → Sound 41 sec off (gotpcrelx sec off flags kind address (negsuc 3))
+  plain : Instruction 41 sec off → Sound 41 sec off a (gotpcrelx sec off flags kind address a)
   unfolding gotpcrelx
   plain i =
-      by-given _ λ _. by-pick _
+      by-given _ λ f. at-4 a (and-left (isMinus4 a) (leb 2 off) (and-left (isMinus4 a && leb 2 off) (isN flags) f)) (by-pick _
       (λ o. by-pick _
       (λ _. by-given _ λ _. record { means = λ base s new c. abs2 sec new off base s (i .whole) (i .low) (eqb→eq _ _ o) (i .rip) c })
       (record { means = λ base s new c. lea-at-2 sec new off base s (i .whole) (i .low) (eqb→eq _ _ o) (i .rip) c }))
       (by-given _ λ o. by-pick _
       (λ m. record { means = λ base s new c. call-at sec new off base s (i .whole) (i .low) (eqb→eq _ _ o) (eqb→eq _ _ m) c })
-      (by-given _ λ m. record { means = λ base s new c. jmp-at sec new off base s (i .whole) (i .low) (eqb→eq _ _ o) (eqb→eq _ _ m) c }))
+      (by-given _ λ m. record { means = λ base s new c. jmp-at sec new off base s (i .whole) (i .low) (eqb→eq _ _ o) (eqb→eq _ _ m) c })))
 
 -- ---- by the type
 
@@ -138,23 +143,23 @@ by-type P a b c d e f n =
     (either (eqb n 9) (eqb n 22) (is P n 9 a) (is P n 22 b))
     (is P n 41 c)) (is P n 42 d)) (is P n 43 e)) (is P n 44 f)
 
-module _ (sec : List ℕ) (off flags kind address : ℕ) (executable : Bool) where
+module _ (sec : List ℕ) (off flags kind address : ℕ) (a : ℤ) (executable : Bool) where
   abbrev Claim : ℕ → Type 0
-  Claim type = Instruction type sec off → Sound type sec off (choose sec off flags kind address (negsuc 3) type executable)
+  Claim type = Instruction type sec off → Sound type sec off a (choose sec off flags kind address a type executable)
 
-  guarded : {type : ℕ} {c : Choice} → Sound type sec off c → Sound type sec off (pick (ifunc flags) none (given executable c))
+  guarded : {type : ℕ} {c : Choice} → Sound type sec off a c → Sound type sec off a (pick (ifunc flags) none (given executable c))
   guarded x = by-pick (ifunc flags) (λ _. nothing) (by-given executable λ _. x)
 
   sound : (type : ℕ) → T (covered type) → Claim type
   unfolding choose pick given
   sound =
       by-type Claim
-      (λ i. guarded (nine sec off flags kind address i))
-      (λ i. guarded (thread sec off flags kind address 22 3 refl (with-rex sec off flags kind address (i .whole) (i .rip) (i .low))))
-      (λ i. guarded (plain sec off flags kind address i))
-      (λ i. guarded (rex sec off flags kind address 42 3 (with-rex sec off flags kind address (i .whole) (i .rip) (i .low)) (lea-rex sec off flags kind address (i .whole) (i .rip) (i .low))))
-      (λ i. guarded (rex sec off flags kind address 43 4 (with-rex2 sec off flags kind address (i .whole) (i .rip) (i .low) (i .first)) (lea-rex2 sec off flags kind address (i .whole) (i .rip) (i .low) (i .first))))
-      (λ i. guarded (thread sec off flags kind address 44 4 refl (with-rex2 sec off flags kind address (i .whole) (i .rip) (i .low) (i .first))))
+      (λ i. guarded (nine sec off flags kind address a i))
+      (λ i. guarded (thread sec off flags kind address a 22 3 refl (with-rex sec off flags kind address a (i .whole) (i .rip) (i .low))))
+      (λ i. guarded (plain sec off flags kind address a i))
+      (λ i. guarded (rex sec off flags kind address a 42 3 (with-rex sec off flags kind address a (i .whole) (i .rip) (i .low)) (lea-rex sec off flags kind address a (i .whole) (i .rip) (i .low))))
+      (λ i. guarded (rex sec off flags kind address a 43 4 (with-rex2 sec off flags kind address a (i .whole) (i .rip) (i .low) (i .first)) (lea-rex2 sec off flags kind address a (i .whole) (i .rip) (i .low) (i .first))))
+      (λ i. guarded (thread sec off flags kind address a 44 4 refl (with-rex2 sec off flags kind address a (i .whole) (i .rip) (i .low) (i .first))))
 
 -- ---- from relaxing, and from choosing and rewriting, to the choice and the rewritten section
 
@@ -202,21 +207,21 @@ chose sec off flags kind address a type executable c e =
     let p : gives (choose sec off flags kind address a type executable) ≡ gives c = behind (ltb 5 kind) 4 _ c (behind (ltb 15 flags) 3 _ c (behind (ltb (length sec) off) 2 _ c (behind (ltb 268435456 (length sec)) 1 _ c e))) in
     cc
 
-means : (type : ℕ) (sec : List ℕ) (off flags kind address : ℕ) (executable : Bool) → T (covered type) → Instruction type sec off
-    → (k : RelaxationKind) (t : ℕ) (m : Bool) (r : Rewritten) → choosing sec off flags kind address (negsuc 3) type executable ≡ gives (chosen k t m)
-    → rewrite k sec off (negsuc 3) ≡ r → EndsAlike type sec off t r
-means type sec off flags kind address executable h i k t m r e q =
+means : (type : ℕ) (sec : List ℕ) (off flags kind address : ℕ) (a : ℤ) (executable : Bool) → T (covered type) → Instruction type sec off
+    → (k : RelaxationKind) (t : ℕ) (m : Bool) (r : Rewritten) → choosing sec off flags kind address a type executable ≡ gives (chosen k t m)
+    → rewrite k sec off a ≡ r → EndsAlike type sec off t r
+means type sec off flags kind address a executable h i k t m r e q =
     subst (EndsAlike type sec off t) q
-    (subst (Means type sec off) (chose sec off flags kind address (negsuc 3) type executable (chosen k t m) e)
-    (sound sec off flags kind address executable type h i .means))
+    (subst (Means type sec off a) (chose sec off flags kind address a type executable (chosen k t m) e)
+    (sound sec off flags kind address a executable type h i .means))
 
 pub same-meaning : SameMeaning
 unfolding relaxing
 same-meaning =
     record {
-      relaxes = λ type sec off flags kind address executable h i k t m r e.
-          let p = taken sec off (negsuc 3) k t m r (choosing sec off flags kind address (negsuc 3) type executable) e in
-          means type sec off flags kind address executable h i k t m r (p .choice) (p .result);
-      rewrites = λ type sec off flags kind address executable h i k t m r e q.
-          means type sec off flags kind address executable h i k t m r e (done sec off (negsuc 3) k t m r q);
+      relaxes = λ type sec off flags kind address a executable h i k t m r e.
+          let p = taken sec off a k t m r (choosing sec off flags kind address a type executable) e in
+          means type sec off flags kind address a executable h i k t m r (p .choice) (p .result);
+      rewrites = λ type sec off flags kind address a executable h i k t m r e q.
+          means type sec off flags kind address a executable h i k t m r e (done sec off a k t m r q);
     }

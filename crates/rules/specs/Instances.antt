@@ -11,8 +11,8 @@ use lib.IntN.{negsuc}
 use Rattle.rules.specs.Answer.{Answer, gives, refuses}
 use Rattle.rules.specs.Range.{signed64}
 use Rattle.rules.specs.Kinds.{RelaxationKind, shapeOf}
-use Rattle.rules.specs.Choose.{inRange}
-use Rattle.rules.specs.Rewrite.{Rewritten, Relaxed, unrelaxed, relaxed, relaxing, relocated, Filled}
+use Rattle.rules.specs.Choose.{Choice, none, chosen, inRange, choosing}
+use Rattle.rules.specs.Rewrite.{Rewritten, Relaxed, unrelaxed, relaxed, rewriting, relaxing, relocated, Filled}
 use Rattle.rules.specs.Machine.{State, Flags, Result, stop, stepped, word, signed32, fieldAt, ripRelative, step}
 use Rattle.rules.specs.Meaning.{covered, head, begins, Instruction, slotValue, Alike}
 
@@ -105,6 +105,19 @@ kindNumberOf c = number (relaxingOf c) where
   number (gives unrelaxed) = 19
   number (gives (relaxed k t m r)) = shapeOf k .number
 
+-- what relaxing gives, and what choosing and then rewriting give: kind, new type, mandatory, and the rest as rewriting gives it
+abbrev pub relaxedAs : Answer Relaxed → Answer Choice × Answer Rewritten
+relaxedAs (refuses n) = (refuses n, refuses n)
+relaxedAs (gives unrelaxed) = (gives none, refuses 0)
+relaxedAs (gives (relaxed k t m r)) = (gives (chosen k t m), gives r)
+
+abbrev pub chosenAs : Case → Answer Choice × Answer Rewritten
+chosenAs c = by (choosing (c .section) (c .offset) (c .flags) (c .kind) (c .address) (negsuc 3) (c .type) true) where
+  by : Answer Choice → Answer Choice × Answer Rewritten
+  by (refuses n) = (refuses n, refuses n)
+  by (gives none) = (gives none, refuses 0)
+  by (gives (chosen k t m)) = (gives (chosen k t m), rewriting k (c .section) (c .offset) (negsuc 3))
+
 -- a register after the relaxed and filled instruction
 abbrev pub registerAfter : Case → ℕ → ℕ
 registerAfter c k = at (step (new (relaxingOf c)) (c .offset - head (c .type)) (c .base) (stateOf c)) where
@@ -122,6 +135,8 @@ pub record Worked : Type 0 where
   pub instances : (c : Case) → meets c ≡ true → Instance c
   -- MovIndirectToLea, MovIndirectToAbsolute, RexMov, RexAdd, RexSub, RexCmp, Call, Jmp; then type 9, and the REX2 forms
   pub kinds : map kindNumberOf cases ≡ 0 ∷ 1 ∷ 2 ∷ 3 ∷ 5 ∷ 6 ∷ 7 ∷ 8 ∷ 0 ∷ 2 ∷ 3 ∷ []
+  -- the same cases meet the premises of choosing and then rewriting
+  pub steps : map chosenAs cases ≡ map (λ (c : Case). relaxedAs (relaxingOf c)) cases
   pub r13 : registerAfter plantTwo 13 ≡ 0x402000
   pub rbp : registerAfter plantTwo 5 ≡ 5 * 16
   -- r16 held 16 * 16, and r8 is as it was

@@ -6,7 +6,7 @@ use mathlib.Core.List.{List}
 use Prim.Native.Nat.{ℕ, _+_, _-_, _%_, _≤_}
 use lib.Dec.{T, eqb}
 use lib.ListN.{length, getD}
-use lib.IntN.{negsuc}
+use lib.IntN.{ℤ}
 use Rattle.rules.specs.Answer.{gives}
 use Rattle.rules.specs.Kinds.{RelaxationKind}
 use Rattle.rules.specs.Choose.{chosen, choosing, isRexW}
@@ -52,16 +52,16 @@ EndsAlike type sec off t r =
 pub record SameMeaning : Type 0 where
   -- after relaxing
   pub relaxes :
-      (type : ℕ) (sec : List ℕ) (off flags kind address : ℕ) (executable : Bool)
+      (type : ℕ) (sec : List ℕ) (off flags kind address : ℕ) (addend : ℤ) (executable : Bool)
       → T (covered type) → Instruction type sec off
       → (k : RelaxationKind) (t : ℕ) (m : Bool) (r : Rewritten)
-      → relaxing sec off flags kind address (negsuc 3) type executable ≡ gives (relaxed k t m r)
+      → relaxing sec off flags kind address addend type executable ≡ gives (relaxed k t m r)
       → EndsAlike type sec off t r
   -- after choosing and then rewriting
   pub rewrites :
-      (type : ℕ) (sec : List ℕ) (off flags kind address : ℕ) (executable : Bool)
+      (type : ℕ) (sec : List ℕ) (off flags kind address : ℕ) (addend : ℤ) (executable : Bool)
       → T (covered type) → Instruction type sec off
       → (k : RelaxationKind) (t : ℕ) (m : Bool) (r : Rewritten)
-      → choosing sec off flags kind address (negsuc 3) type executable ≡ gives (chosen k t m)
-      → rewriting k sec off (negsuc 3) ≡ gives r
+      → choosing sec off flags kind address addend type executable ≡ gives (chosen k t m)
+      → rewriting k sec off addend ≡ gives r
       → EndsAlike type sec off t r

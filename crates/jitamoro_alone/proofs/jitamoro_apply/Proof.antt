@@ -3,7 +3,7 @@
 use Rattle.jitamoro_alone.proofs.Rewritten.{appliedLayout, laid}
 use Rattle.relaxation_kind.specs.Kind.{numbered}
 use Rattle.rules.specs.Rewrite.{rewriting}
-use mathlib.Core.Path.{sym, ap, _∙_}
+use mathlib.Core.Path.{ap, _∙_}
 use mir.Facts.{toZ-ofZ}
 use mir.Syntax.{w64}
 use borrow.Author.Needs.{needs, sfits-of}

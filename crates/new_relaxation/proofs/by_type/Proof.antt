@@ -3,8 +3,7 @@
 use Rattle.new_relaxation.proofs.Types.{in-range, below, above}
 use Rattle.new_relaxation.specs.Choices.{isRex2W}
 use Rattle.output_kind.specs.Output.{outputNumber}
-use Rattle.rules.specs.Choose.{given}
-use Rattle.rules.specs.Choose.{pick}
+use Rattle.rules.specs.Choose.{given, pick}
 use borrow.Author.Needs.{needs}
 use Rattle.new_relaxation.proofs.by_type.Statement.{statement}
 use Rattle.new_relaxation.proofs.by_type.Tie as tie

@@ -1,8 +1,6 @@
 -- `choose_for` meets its contract.
 -- Assumes nothing.
-use Rattle.rules.specs.Choose.{choose}
-use Rattle.rules.specs.Choose.{given}
-use Rattle.rules.specs.Choose.{pick}
+use Rattle.rules.specs.Choose.{choose, given, pick}
 use borrow.Author.Needs.{needs}
 use borrow.Author.Tests.{ne-eqb}
 use Rattle.new_relaxation.proofs.choose_for.Statement.{statement}

@@ -1,8 +1,7 @@
 -- `code_6_gottpoff` meets its contract.
 -- Assumes nothing.
 use Rattle.new_relaxation.proofs.Tests.{and-false, and-true}
-use Rattle.rules.specs.Choose.{code6Gottpoff}
-use Rattle.rules.specs.Choose.{given}
+use Rattle.rules.specs.Choose.{code6Gottpoff, given}
 use borrow.Author.Needs.{needs}
 use borrow.Author.Tests.{le-leb, le-ltb, lt-leb, lt-ltb}
 use Rattle.new_relaxation.proofs.code_6_gottpoff.Statement.{statement}

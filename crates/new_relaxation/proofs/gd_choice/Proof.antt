@@ -1,7 +1,6 @@
 -- `gd_choice` meets its contract.
 -- Assumes nothing.
-use Rattle.rules.specs.Choose.{given}
-use Rattle.rules.specs.Choose.{pick}
+use Rattle.rules.specs.Choose.{given, pick}
 use borrow.Author.Needs.{needs}
 use Rattle.new_relaxation.proofs.gd_choice.Statement.{statement}
 use Rattle.new_relaxation.proofs.gd_choice.Tie as tie

@@ -1,7 +1,6 @@
 -- `gotpcrel` meets its contract.
 -- Assumes nothing.
-use Rattle.rules.specs.Choose.{given}
-use Rattle.rules.specs.Choose.{gotpcrel}
+use Rattle.rules.specs.Choose.{given, gotpcrel}
 use borrow.Author.Needs.{needs}
 use borrow.Author.Tests.{le-leb, le-ltb, lt-leb, lt-ltb, ne-eqb}
 use Rattle.new_relaxation.proofs.gotpcrel.Statement.{statement}

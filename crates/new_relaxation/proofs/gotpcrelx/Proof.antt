@@ -1,12 +1,8 @@
 -- `gotpcrelx` meets its contract.
 -- Assumes nothing.
 use Rattle.new_relaxation.proofs.Tests.{and-false, and-true}
-use Rattle.new_relaxation.specs.Choices.{branchTo}
-use Rattle.new_relaxation.specs.Choices.{movLoad}
-use Rattle.rules.specs.Choose.{given}
-use Rattle.rules.specs.Choose.{gotpcrelx}
-use Rattle.rules.specs.Choose.{isMinus4}
-use Rattle.rules.specs.Choose.{pick}
+use Rattle.new_relaxation.specs.Choices.{branchTo, movLoad}
+use Rattle.rules.specs.Choose.{given, gotpcrelx, isMinus4, pick}
 use borrow.Author.Needs.{needs}
 use borrow.Author.Tests.{lt-leb, le-leb, ne-eqb}
 use Rattle.new_relaxation.proofs.gotpcrelx.Statement.{statement}

@@ -1,6 +1,6 @@
 -- `in_range` meets its contract.
 -- Assumes nothing.
-use Rattle.relaxation.proofs.Looked.{looked}
+use Rattle.x86_64.proofs.Looked.{looked}
 use Rattle.rules.specs.Choose.{inRange}
 use borrow.Author.Needs.{needs, sfits-of}
 use mir.Facts.{toZ-ofZ}

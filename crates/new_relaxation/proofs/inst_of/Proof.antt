@@ -1,6 +1,5 @@
 -- `inst_of` meets its contract.
 -- Assumes nothing.
-use borrow.Author.Needs.{needs}
 use borrow.Author.Tests.{ne-eqb}
 use Rattle.new_relaxation.proofs.inst_of.Statement.{statement}
 use Rattle.new_relaxation.proofs.inst_of.Tie as tie

@@ -1,7 +1,7 @@
 -- `is_minus_4` meets its contract.
 -- Assumes nothing.
 use Rattle.new_relaxation.proofs.Tests.{by-bits}
-use borrow.Author.Needs.{needs, sfits-of}
+use borrow.Author.Needs.{sfits-of}
 use mir.Syntax.{w64}
 use Rattle.new_relaxation.proofs.is_minus_4.Statement.{statement}
 use Rattle.new_relaxation.proofs.is_minus_4.Tie as tie

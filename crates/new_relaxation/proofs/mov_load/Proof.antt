@@ -1,8 +1,7 @@
 -- `mov_load` meets its contract.
 -- Assumes nothing.
 use Rattle.new_relaxation.specs.Choices.{movLoad}
-use Rattle.rules.specs.Choose.{given}
-use Rattle.rules.specs.Choose.{pick}
+use Rattle.rules.specs.Choose.{given, pick}
 use borrow.Author.Needs.{needs}
 use Rattle.new_relaxation.proofs.mov_load.Statement.{statement}
 use Rattle.new_relaxation.proofs.mov_load.Tie as tie

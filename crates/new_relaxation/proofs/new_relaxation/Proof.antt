@@ -2,9 +2,7 @@
 -- Assumes nothing.
 use Rattle.new_relaxation.proofs.Numbers.{refused, taken}
 use Rattle.rules.specs.Choose.{choosing}
-use Rattle.rules.specs.Record.{flagNumber}
-use Rattle.rules.specs.Record.{flagsAbove, kindAbove}
-use Rattle.rules.specs.Record.{outputKind}
+use Rattle.rules.specs.Record.{flagNumber, flagsAbove, kindAbove, outputKind}
 use borrow.Author.Needs.{needs}
 use borrow.Author.Tests.{le-ltb, lt-ltb}
 use mathlib.Core.Path.{sym, _∙_}

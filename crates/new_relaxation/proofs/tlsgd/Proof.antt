@@ -1,10 +1,9 @@
--- `tlsgd` meets its contract., the forms by one law.
+-- `tlsgd` meets its contract, the forms by one law.
 -- Assumes nothing.
 use Rattle.new_relaxation.proofs.Tests.{forms}
 use Rattle.new_relaxation.specs.Choices.{gdForm}
 use Rattle.rules.specs.Answer.{gives}
-use Rattle.rules.specs.Choose.{given}
-use Rattle.rules.specs.Choose.{tlsgd}
+use Rattle.rules.specs.Choose.{given, tlsgd}
 use borrow.Author.Needs.{needs}
 use mathlib.Core.Path.{_∙_, ap}
 use Rattle.new_relaxation.proofs.tlsgd.Statement.{statement}

@@ -1,8 +1,7 @@
 -- `tlsld` meets its contract.
 -- Assumes nothing.
 use Rattle.new_relaxation.specs.Choices.{ldCall}
-use Rattle.rules.specs.Choose.{given}
-use Rattle.rules.specs.Choose.{tlsld}
+use Rattle.rules.specs.Choose.{given, tlsld}
 use borrow.Author.Needs.{needs}
 use Rattle.new_relaxation.proofs.tlsld.Statement.{statement}
 use Rattle.new_relaxation.proofs.tlsld.Tie as tie

@@ -1,9 +1,7 @@
 -- `relax_chosen` meets its contract, choice by choice.
 -- Assumes nothing.
-use Rattle.relaxation_kind.specs.Kind.{kindOf}
 use Rattle.relax.proofs.Chosen.{finishes}
 use Rattle.rules.specs.Rewrite.{afterRelaxing}
-use Rattle.rules.specs.Rewrite.{rewriting}
 use borrow.Author.Needs.{needs}
 use mathlib.Core.Path.{refl}
 use mir.Facts.{toZ-ofZ}

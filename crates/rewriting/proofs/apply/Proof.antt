@@ -2,12 +2,9 @@
 -- Assumes nothing.
 use Rattle.relaxation_kind.specs.Kind.{kindOf}
 use Rattle.rewriting.proofs.Answers.{done, refused, starts}
-use Rattle.rewriting.specs.Apply.{attemptedBytes}
-use Rattle.rewriting.specs.Apply.{attempt}
+use Rattle.rewriting.specs.Apply.{attemptedBytes, attempt}
 use Rattle.rules.specs.Kinds.{allowed, fits}
-use Rattle.rules.specs.Rewrite.{afterRewriting}
-use Rattle.rules.specs.Rewrite.{rewrite}
-use Rattle.rules.specs.Rewrite.{rewriting}
+use Rattle.rules.specs.Rewrite.{afterRewriting, rewrite, rewriting}
 use borrow.Author.Needs.{needs}
 use borrow.Author.Tests.{le-ltb, lt-ltb}
 use lib.ListN.{length}

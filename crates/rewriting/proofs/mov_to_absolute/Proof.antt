@@ -2,11 +2,9 @@
 -- Assumes nothing.
 use Rattle.rewriting.proofs.Window.{within}
 use lib.ListN.{length}
-use Rattle.rewriting.specs.Apply.{attemptedBytes}
-use Rattle.rewriting.specs.Apply.{attempt}
+use Rattle.rewriting.specs.Apply.{attemptedBytes, attempt}
 use borrow.Author.Needs.{needs}
 use mathlib.Core.Path.{refl, sym, _∙_}
-use mathlib.Core.Path.{refl}
 use native.Mathlib.Omega.{arith}
 use Rattle.rewriting.proofs.mov_to_absolute.Statement.{statement}
 use Rattle.rewriting.proofs.mov_to_absolute.Tie as tie

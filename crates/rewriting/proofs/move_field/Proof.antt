@@ -3,7 +3,6 @@
 use Rattle.relaxation_kind.specs.Kind.{kindOf}
 use Rattle.rewriting.proofs.Answers.{steps}
 use borrow.Author.Needs.{needs}
-use mathlib.Core.Path.{sym, refl}
 use mir.Facts.{toZ-ofZ}
 use mir.Syntax.{w64}
 use native.Mathlib.Omega.{arith}

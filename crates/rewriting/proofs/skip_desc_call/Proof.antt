@@ -1,7 +1,6 @@
 -- `skip_desc_call` meets its contract.
 -- Assumes nothing.
-use Rattle.rewriting.specs.Apply.{attemptedBytes}
-use Rattle.rewriting.specs.Apply.{attempt}
+use Rattle.rewriting.specs.Apply.{attemptedBytes, attempt}
 use borrow.Author.Needs.{needs}
 use native.Mathlib.Nat.{sub-zero}
 use Rattle.rewriting.proofs.skip_desc_call.Statement.{statement}

@@ -10,19 +10,15 @@ use Rattle.rules.specs.Range.{byteRange}
 use Rattle.rules.specs.Types.{Row, earlierTypes, laterTypes, lookup}
 use Rattle.rules.specs.Psabi.{Conforms}
 use Rattle.rules.proofs.Psabi.{conforms}
-use Rattle.elf.proofs.Back.{row-back}
 use Rattle.x86_64.specs.Types.{foundOf, answerOf}
 use Rattle.x86_64.specs.declared.RelocationFound.{RelocationFound}
+use Rattle.x86_64.proofs.Looked.{found-back}
 use Rattle.x86_64.proofs.Rows.{past}
 use Rattle.x86_64.proofs.relocation_from_raw.Statement.{statement}
 use Rattle.x86_64.proofs.relocation_from_raw.Tie as tie
 
-back : (a : Answer Row) → answerOf (foundOf a) ≡ a
-back (gives r) = ap gives (row-back r)
-back (refuses n) = refl
-
 both : (t : ℕ) {r : RelocationFound} → r ≡ foundOf (lookup t) → (r ≡ foundOf (lookup t)) × Conforms t (answerOf r)
-both t e = (e, rw (e, back (lookup t)) (conforms t))
+both t e = (e, rw (e, found-back (lookup t)) (conforms t))
 
 other : tie.Need-returns-29
 unfolding earlierTypes lookup

@@ -1,4 +1,4 @@
--- `identify` meets its contract., form by form.
+-- `identify` meets its contract, form by form.
 -- Assumes nothing.
 use Rattle.new_relaxation.specs.Choices.{gdForm}
 use borrow.Author.Needs.{needs}

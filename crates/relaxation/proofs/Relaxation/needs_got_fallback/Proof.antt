@@ -1,6 +1,6 @@
 -- `needs_got_fallback` meets its contract.
 -- Assumes nothing.
-use Rattle.relaxation.proofs.Looked.{looked}
+use Rattle.x86_64.proofs.Looked.{looked}
 use Rattle.rules.specs.Choose.{needsGotFallback}
 use borrow.Author.Needs.{needs}
 use Rattle.relaxation.proofs.Relaxation.needs_got_fallback.Statement.{statement}

@@ -1,20 +1,18 @@
--- `add_to_lea` meets its contract.
+-- `rex_add_to_lea` meets its contract.
 -- Assumes nothing.
 use Rattle.rewriting.proofs.Window.{within}
 use lib.ListN.{length}
-use Rattle.rewriting.specs.Apply.{attemptedBytes}
-use Rattle.rewriting.specs.Apply.{attempt}
+use Rattle.rewriting.specs.Apply.{attemptedBytes, attempt}
 use borrow.Author.Needs.{needs}
 use borrow.Author.Tests.{ne-eqb}
 use mathlib.Core.Path.{refl, sym, _∙_}
-use mathlib.Core.Path.{refl}
 use native.Mathlib.Omega.{arith}
-use Rattle.rewriting.proofs.add_to_lea.Statement.{statement}
-use Rattle.rewriting.proofs.add_to_lea.Tie as tie
+use Rattle.rewriting.proofs.rex_add_to_lea.Statement.{statement}
+use Rattle.rewriting.proofs.rex_add_to_lea.Tie as tie
 
-pub add-to-lea-spec : {M : Type 1} → statement M
+pub rex-add-to-lea-spec : {M : Type 1} → statement M
 unfolding attempt attemptedBytes
-add-to-lea-spec =
+rex-add-to-lea-spec =
     tie.close
     (tie.spec
     (λ c κs. search needs)

@@ -1,19 +1,17 @@
--- `evex_add_to_absolute` meets its contract.
+-- `evex_add` meets its contract.
 -- Assumes nothing.
 use Rattle.rewriting.proofs.Window.{within}
 use lib.ListN.{length}
-use Rattle.rewriting.specs.Apply.{attemptedBytes}
-use Rattle.rewriting.specs.Apply.{attempt}
+use Rattle.rewriting.specs.Apply.{attemptedBytes, attempt}
 use borrow.Author.Needs.{needs}
 use mathlib.Core.Path.{refl, sym, _∙_}
-use mathlib.Core.Path.{refl}
 use native.Mathlib.Omega.{arith}
-use Rattle.rewriting.proofs.evex_add_to_absolute.Statement.{statement}
-use Rattle.rewriting.proofs.evex_add_to_absolute.Tie as tie
+use Rattle.rewriting.proofs.evex_add.Statement.{statement}
+use Rattle.rewriting.proofs.evex_add.Tie as tie
 
-pub evex-add-to-absolute-spec : {M : Type 1} → statement M
+pub evex-add-spec : {M : Type 1} → statement M
 unfolding attempt attemptedBytes
-evex-add-to-absolute-spec =
+evex-add-spec =
     tie.close
     (tie.spec
     (λ c κs. search needs)
