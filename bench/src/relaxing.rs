@@ -1,5 +1,6 @@
 //! Times choosing, rewriting and relaxing. Every record has bytes of its own; all are put back
-//! before each pass, outside the time.
+//! before each pass, outside the time. The port is given document 01's numbers, wild its own types,
+//! made of them before.
 
 use crate::elapsed;
 use crate::time;
@@ -33,9 +34,9 @@ const PASSES: usize = 16;
 const SHARE: usize = 64;
 const OFFSET: usize = 24;
 
-/// Choosing, where `P` is `*const u8`, or relaxing, where it is `*mut u8`.
-type Ask<P, T> = unsafe extern "C" fn(u32, P, usize, u64, u8, u8, bool, u64, i64) -> T;
-type Apply<T> = unsafe extern "C" fn(u8, u8, *mut u8, usize, u64, i64) -> T;
+/// Choosing, where `P` is `*const u8`, or relaxing, where it is `*mut u8`. `F` and `K` are how flags
+/// and output kinds are given.
+type Ask<P, F, K, T> = unsafe extern "C" fn(u32, P, usize, u64, F, K, bool, u64, i64) -> T;
 
 /// The port's fields from wild. Two stay as wild has them: the kind with its instruction offset,
 /// and for the new type the kind of its row.
@@ -88,18 +89,23 @@ unsafe extern "C" fn rust_new_relaxation(
     start: *const u8,
     len: usize,
     offset: u64,
-    flags: u8,
-    output_kind: u8,
+    flags: ValueFlags,
+    output_kind: OutputKind,
     executable: bool,
     address: u64,
     addend: i64,
 ) -> RustChoice {
     // SAFETY: the driver lends a whole section.
     let section = unsafe { slice::from_raw_parts(start, len) };
-    let flags = ValueFlags::from_number(flags).unwrap();
-    let kind = OutputKind::from_number(output_kind).unwrap();
     oracle::new_relaxation(
-        r_type, section, offset, flags, kind, executable, address, addend,
+        r_type,
+        section,
+        offset,
+        flags,
+        output_kind,
+        executable,
+        address,
+        addend,
     )
     .map_or(NONE, |relaxation| RustChoice::from(&relaxation))
 }
@@ -111,18 +117,23 @@ unsafe extern "C" fn rust_relax(
     start: *mut u8,
     len: usize,
     mut offset: u64,
-    flags: u8,
-    output_kind: u8,
+    flags: ValueFlags,
+    output_kind: OutputKind,
     executable: bool,
     address: u64,
     mut addend: i64,
 ) -> RustRelaxed {
     // SAFETY: the driver lends a whole section.
     let section = unsafe { slice::from_raw_parts_mut(start, len) };
-    let flags = ValueFlags::from_number(flags).unwrap();
-    let kind = OutputKind::from_number(output_kind).unwrap();
     let relaxation = oracle::new_relaxation(
-        r_type, section, offset, flags, kind, executable, address, addend,
+        r_type,
+        section,
+        offset,
+        flags,
+        output_kind,
+        executable,
+        address,
+        addend,
     );
     let Some(relaxation) = relaxation else {
         return RustRelaxed {
@@ -139,10 +150,10 @@ unsafe extern "C" fn rust_relax(
     }
 }
 
+#[allow(improper_ctypes_definitions)]
 #[inline(never)]
 unsafe extern "C" fn rust_apply(
-    kind: u8,
-    inst_offset: u8,
+    kind: RelaxationKind,
     start: *mut u8,
     len: usize,
     mut offset: u64,
@@ -150,7 +161,6 @@ unsafe extern "C" fn rust_apply(
 ) -> MovedAnswer {
     // SAFETY: the driver lends a whole section.
     let section = unsafe { slice::from_raw_parts_mut(start, len) };
-    let kind = relaxation::relaxation_kind(kind, inst_offset).unwrap();
     kind.apply(section, &mut offset, &mut addend);
     MovedAnswer {
         refusal: 0,
@@ -204,6 +214,14 @@ struct Input {
     length: usize,
     record: Record,
     kind: (u8, u8),
+    wild: Wild,
+}
+
+/// What of a record wild is given in types of its own.
+struct Wild {
+    flags: ValueFlags,
+    output_kind: OutputKind,
+    kind: RelaxationKind,
 }
 
 impl Pool {
@@ -232,11 +250,17 @@ impl Pool {
             let (start, length, offset) = place(inputs.len());
             let mut record = case.record;
             record.offset = offset as u64;
+            let kind = case.chosen.unwrap_or_default();
             inputs.push(Input {
                 start,
                 length,
                 record,
-                kind: case.chosen.unwrap_or_default(),
+                kind,
+                wild: Wild {
+                    flags: ValueFlags::from_number(record.flags).unwrap(),
+                    output_kind: OutputKind::from_number(record.output_kind).unwrap(),
+                    kind: relaxation::relaxation_kind(kind.0, kind.1).unwrap(),
+                },
             });
         }
         Self {
@@ -266,14 +290,16 @@ impl Pool {
     }
 }
 
-fn ask_all<P, T>(
-    function: Ask<P, T>,
+fn ask_all<P, F, K, T>(
+    function: Ask<P, F, K, T>,
     pointer: impl Fn(*mut u8) -> P,
+    given: impl Fn(&Input) -> (F, K),
     pool: &RefCell<Pool>,
 ) -> Duration {
     let function = black_box(function);
     pool.borrow_mut().run(|input, section| {
         let it = &input.record;
+        let (flags, output_kind) = given(input);
         // SAFETY: a whole section, by its pointer and length.
         black_box(&unsafe {
             function(
@@ -281,8 +307,8 @@ fn ask_all<P, T>(
                 pointer(section),
                 input.length,
                 it.offset,
-                it.flags,
-                it.output_kind,
+                flags,
+                output_kind,
                 it.executable,
                 it.address,
                 it.addend,
@@ -291,16 +317,31 @@ fn ask_all<P, T>(
     })
 }
 
-fn choose_all<T>(function: Ask<*const u8, T>, pool: &RefCell<Pool>) -> Duration {
-    ask_all(function, |section| section.cast_const(), pool)
+fn numbers(input: &Input) -> (u8, u8) {
+    (input.record.flags, input.record.output_kind)
 }
 
-fn relax_all<T>(function: Ask<*mut u8, T>, pool: &RefCell<Pool>) -> Duration {
-    ask_all(function, |section| section, pool)
+fn types(input: &Input) -> (ValueFlags, OutputKind) {
+    (input.wild.flags, input.wild.output_kind)
 }
 
-fn apply_all<T>(function: Apply<T>, pool: &RefCell<Pool>) -> Duration {
-    let function = black_box(function);
+fn port_relax_all(pool: &RefCell<Pool>) -> Duration {
+    ask_all(port::jitamoro_relax, |section| section, numbers, pool)
+}
+
+fn port_choose_all(pool: &RefCell<Pool>) -> Duration {
+    let pointer = |section: *mut u8| section.cast_const();
+    ask_all(port::jitamoro_new_relaxation, pointer, numbers, pool)
+}
+
+fn rust_choose_all(pool: &RefCell<Pool>) -> Duration {
+    let pointer = |section: *mut u8| section.cast_const();
+    ask_all(rust_new_relaxation, pointer, types, pool)
+}
+
+fn port_apply_all(pool: &RefCell<Pool>) -> Duration {
+    type Apply = unsafe extern "C" fn(u8, u8, *mut u8, usize, u64, i64) -> MovedAnswer;
+    let function = black_box(port::jitamoro_apply as Apply);
     pool.borrow_mut().run(|input, section| {
         let (kind, inst_offset) = input.kind;
         let (offset, addend) = (input.record.offset, input.record.addend);
@@ -309,9 +350,20 @@ fn apply_all<T>(function: Apply<T>, pool: &RefCell<Pool>) -> Duration {
     })
 }
 
+fn rust_apply_all(pool: &RefCell<Pool>) -> Duration {
+    #[allow(improper_ctypes_definitions)]
+    type Apply = unsafe extern "C" fn(RelaxationKind, *mut u8, usize, u64, i64) -> MovedAnswer;
+    let function = black_box(rust_apply as Apply);
+    pool.borrow_mut().run(|input, section| {
+        let (offset, addend) = (input.record.offset, input.record.addend);
+        // SAFETY: a whole section, by its pointer and length.
+        black_box(&unsafe { function(input.wild.kind, section, input.length, offset, addend) });
+    })
+}
+
 fn time_relax(name: &str, pool: &RefCell<Pool>) {
-    let port = || relax_all(port::jitamoro_relax, pool);
-    let rust = || relax_all(rust_relax, pool);
+    let port = || port_relax_all(pool);
+    let rust = || ask_all(rust_relax, |section| section, types, pool);
     time(name, RECORDS * PASSES, port, rust);
 }
 
@@ -349,16 +401,16 @@ fn time_mix(mix: &[Case]) {
     let calls = RECORDS * PASSES;
     let short = &RefCell::new(Pool::short(mix));
     time_relax("relax, mix of kinds", short);
-    let port = || choose_all(port::jitamoro_new_relaxation, short);
-    let rust = || choose_all(rust_new_relaxation, short);
+    let port = || port_choose_all(short);
+    let rust = || rust_choose_all(short);
     time("choose, mix of kinds", calls, port, rust);
-    let port = || apply_all(port::jitamoro_apply, short);
-    let rust = || apply_all(rust_apply, short);
+    let port = || port_apply_all(short);
+    let rust = || rust_apply_all(short);
     time("apply, mix of kinds", calls, port, rust);
     let long = &RefCell::new(Pool::long(mix));
     time_relax("relax, mix, 256 MiB section", long);
-    let of_long = || relax_all(port::jitamoro_relax, long);
-    let of_short = || relax_all(port::jitamoro_relax, short);
+    let of_long = || port_relax_all(long);
+    let of_short = || port_relax_all(short);
     let names = ["256 MiB", "64 B"];
     time_pair("relax, mix, port alone", names, calls, of_long, of_short);
 }

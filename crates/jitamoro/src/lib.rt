@@ -10,7 +10,7 @@ ghost use Rattle.rules.specs.Types.{lookup, dynamicType};
 ghost use Rattle.rules.specs.Plt.{pltAnswer, pltBytes, padding};
 ghost use Rattle.rules.specs.Rewrite.{relaxing, afterRelaxing};
 ghost use Rattle.jitamoro.specs.Layout.{outputLayout, flagsLayout, relocationLayout, infoLayout, refusalNumber};
-ghost use Rattle.jitamoro.specs.Relaxing.{relaxedNot, relaxedLayout};
+ghost use Rattle.jitamoro.specs.Relaxing.{relaxedNot, relaxedLayout, KeepsMeaning};
 use elf::AllowedRange;
 use elf::DynamicRelocationKind;
 use elf::RelocationKindInfo;
@@ -221,7 +221,8 @@ pub struct RelaxedAnswer {
     pub addend: i64,
 }
 
-// Relaxes one record in its section. Refusals 1, 2, 3, 4, 6.
+// Relaxes one record in its section. Refusals 1, 2, 3, 4, 6. Its contract ends with demand 3, same
+// meaning, of what the call did.
 #[no_mangle]
 pub extern "C" fn jitamoro_relax(
     r_type: u32,
@@ -235,6 +236,7 @@ pub extern "C" fn jitamoro_relax(
 ) -> RelaxedAnswer
     ensures { λ r. ⌜ r ≡ relaxedLayout (relaxing (now (section .entry)) offset flags «output_kind» address addend «r_type» executable) ⌝ }
     ensures { λ _. ⌜ now (section .exit) ≡ afterRelaxing (now (section .entry)) (relaxing (now (section .entry)) offset flags «output_kind» address addend «r_type» executable) ⌝ }
+    ensures { λ r. ⌜ KeepsMeaning «r_type» (now (section .entry)) offset r (now (section .exit)) ⌝ }
 {
     match relax::relax(
         r_type,

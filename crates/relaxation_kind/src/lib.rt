@@ -49,9 +49,10 @@ pub enum RelaxationKind {
 }
 
 impl RelaxationKind {
-    // "kind (0 to 18 in the order of `RelaxationKind`)"
+    // "kind (0 to 18 in the order of `RelaxationKind`)": with the instruction offset it tells the kind.
     pub fn number(self) -> u8
         ensures { λ r. ⌜ r ≡ shapeOf (kindOf self) .number ⌝ }
+        ensures { λ r. ⌜ numbered r (shapeOf (kindOf self) .inst) ≡ kindOf self ⌝ }
     {
         match self {
             RelaxationKind::MovIndirectToLea => 0,

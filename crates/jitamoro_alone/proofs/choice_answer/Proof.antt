@@ -14,4 +14,4 @@ choice-answer-spec =
     (λ c κs. search needs)
     (λ c κs. search needs)
     (λ c κs. search needs)
-    (λ c. rw (c .before .before .before .before .before .number .ensures, c .before .before .before .before .inst-offset .ensures, c .before .before .before .is-mandatory .ensures, c .before .is-skip .ensures, c .before .before .next-modifier .ensures, c .needs-got-fallback .ensures)))
+    (λ c. rw (c .before .before .before .before .before .number .ensures .0, c .before .before .before .before .inst-offset .ensures, c .before .before .before .is-mandatory .ensures, c .before .is-skip .ensures, c .before .before .next-modifier .ensures, c .needs-got-fallback .ensures)))

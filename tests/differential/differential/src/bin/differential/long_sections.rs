@@ -1,5 +1,6 @@
 //! Sections of the greatest length and of one byte more. All zeros but about the offset, where the
-//! bytes are compared after each call; all others are looked at once for each offset.
+//! bytes are compared after each call; all others are looked at once for each offset, and in the
+//! longer section once in all.
 
 use crate::Comparison;
 use crate::GUARD;
