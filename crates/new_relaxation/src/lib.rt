@@ -1,15 +1,15 @@
 // elf_x86_64.rs: new_relaxation and TlsGdForm.
 ghost use mathlib.Core.Path.{_≡_};
-ghost use mathlib.Core.Bool.{_&&_, _||_};
 ghost use Prim.Native.Nat.{_+_, _-_, _≤_};
 ghost use lib.ListN.{length, drop, getD};
 ghost use Rattle.rules.specs.Answer.{gives};
-ghost use Rattle.rules.specs.Record.{isN, isA, isK, isF};
+ghost use Rattle.rules.specs.Record.{isN, isA};
 ghost use Rattle.rules.specs.Range.{signed64};
-ghost use Rattle.rules.specs.Choose.{isMinus4, isRexW, inRange, startsWith, rexGotpcrelx, gotpcrelx, gotpcrel, gottpoff, code6Gottpoff};
+ghost use Rattle.rules.specs.Choose.{isMinus4, isRexW, isRex2W, isFixed, inRange, startsWith, stands, rexAbsolute, movLoad, branchTo, tpoffLoad};
+ghost use Rattle.rules.specs.Choose.{noOp, ldCall, descChoice, descCall, rexGotpcrelx, gotpcrelx, gotpcrel, gottpoff, code6Gottpoff};
 ghost use Rattle.rules.specs.Choose.{tlsgd, tlsld, tlsdesc, byType, choose, choosing};
 ghost use Rattle.output_kind.specs.Output.{outputNumber};
-ghost use Rattle.new_relaxation.specs.Choices.{choiceOf, relaxes, asked, instOf, rexAbsolute, movLoad, branchTo, tpoffLoad, noOp, gdForm, gdChoice, ldCall, isRex2W, descChoice, descCall, standsBefore};
+ghost use Rattle.new_relaxation.specs.Choices.{choiceOf, relaxes, asked, instOf, gdForm, gdChoice};
 use output_kind::OutputKind;
 use output_kind::OutputKindFound;
 use relaxation::Relaxation;
@@ -170,7 +170,7 @@ fn is_absolute(flags: ValueFlags) -> bool
 
 // A or (K and F): the value is known now.
 fn is_fixed(flags: ValueFlags, output_kind: OutputKind) -> bool
-    ensures { λ r. ⌜ r ≡ (isA (flags .bits) || (isK (flags .bits) && isF (outputNumber «output_kind»))) ⌝ }
+    ensures { λ r. ⌜ r ≡ isFixed (flags .bits) (outputNumber «output_kind») ⌝ }
 {
     is_absolute(flags) | (flags.has_link_time_address() & output_kind.has_fixed_load_address())
 }
@@ -741,7 +741,7 @@ fn tail(section_bytes: &[u8], offset: usize) -> &[u8]
 
 // Whether a fixed byte string stands before the offset.
 fn stands_before(section_bytes: &[u8], offset: usize, fixed: &[u8]) -> bool
-    ensures { λ r. ⌜ r ≡ standsBefore (now («section_bytes» .entry)) offset (now (fixed .entry)) ⌝ }
+    ensures { λ r. ⌜ r ≡ stands (now («section_bytes» .entry)) offset (now (fixed .entry)) ⌝ }
 {
     if fixed.len() <= offset {
         starts_with(part_from(section_bytes, offset - fixed.len()), fixed)

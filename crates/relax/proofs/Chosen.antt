@@ -11,7 +11,8 @@ use lib.ListN.{length}
 use Rattle.rules.specs.Answer.{Answer, gives, refuses}
 use Rattle.rules.specs.Record.{flagsAbove, kindAbove}
 use Rattle.rules.specs.Kinds.{RexAddIndirectToAbsolute, allowed, fits}
-use Rattle.rules.specs.Choose.{none, chosen, given, pick, tooLong, past, rexGotpcrelx, gotpcrelx, gotpcrel, gottpoff, code6Gottpoff, tlsgd, tlsld, tlsdesc, byType, choose, choosing}
+use Rattle.rules.specs.Choose.{none, chosen, given, pick, tooLong, past, rexAbsolute, movLoad, branchTo, tpoffLoad, ldCall, descChoice, rexGotpcrelx}
+use Rattle.rules.specs.Choose.{gotpcrelx, gotpcrel, gottpoff, code6Gottpoff, tlsgd, tlsld, tlsdesc, byType, choose, choosing}
 use Rattle.rules.specs.Rewrite.{Rewritten, relaxed, rewrite, rewriting, afterRewriting, relaxChosen, relaxing, afterRelaxing}
 use Rattle.relaxation_kind.specs.Kind.{kindOf}
 use Rattle.rewriting.specs.Apply.{appliedOf}
@@ -41,22 +42,22 @@ by-pick false c d h g = g
 module _ (sec : List ℕ) (off flags kind address : ℕ) (addend : ℤ) where
   -- 42, 43
   rex : (n : ℕ) → (eqb n 3 || eqb n 4) ≡ true → Allowed (rexGotpcrelx sec off flags kind address addend n)
-  unfolding rexGotpcrelx
+  unfolding rexGotpcrelx rexAbsolute
   rex n h =
       by-given _ _ (by-given _ _ (by-pick _ _ _ (by-given _ _ (by-pick _ _ _ h (by-pick _ _ _ h (by-given _ _ h)))) (by-given _ _ refl)))
 
   -- 22, 44
   thread : (n : ℕ) → (eqb n 3 || eqb n 4) ≡ true → allowed (RexAddIndirectToAbsolute n) ≡ true → Allowed (gottpoff sec off flags kind address addend n)
-  unfolding gottpoff
+  unfolding gottpoff tpoffLoad
   thread n h g = by-given _ _ (by-given _ _ (by-pick _ _ _ h (by-given _ _ g)))
 
   -- 34, 45
   descriptor : (n : ℕ) (prefix : Bool) → (eqb n 3 || eqb n 4) ≡ true → Allowed (tlsdesc sec off flags kind address addend n prefix)
-  unfolding tlsdesc
+  unfolding tlsdesc descChoice
   descriptor n prefix h = by-given _ _ (by-pick _ _ _ h refl)
 
   plain : Allowed (gotpcrelx sec off flags kind address addend)
-  unfolding gotpcrelx
+  unfolding gotpcrelx movLoad branchTo
   plain =
       by-given _ _ (by-pick _ _ _ (by-pick _ _ _ (by-given _ _ refl) refl) (by-given _ _ (by-pick _ _ _ refl (by-given _ _ refl))))
 
@@ -73,7 +74,7 @@ module _ (sec : List ℕ) (off flags kind address : ℕ) (addend : ℤ) where
   dynamic = by-given _ _ (by-pick _ _ _ (by-pick _ _ _ refl refl) (by-given _ _ (by-given _ _ refl)))
 
   local : Allowed (tlsld sec off flags kind address addend)
-  unfolding tlsld
+  unfolding tlsld ldCall
   local = by-given _ _ (by-pick _ _ _ refl (by-pick _ _ _ refl (by-given _ _ refl)))
 
   by-type : (type : ℕ) → Allowed (byType sec off flags kind address addend type)
@@ -90,7 +91,7 @@ module _ (sec : List ℕ) (off flags kind address : ℕ) (addend : ℤ) where
       (by-pick _ _ _ dynamic
       (by-pick _ _ _ local
       (by-pick _ _ _ (descriptor 3 _ refl)
-      (by-pick _ _ _ (descriptor 4 _ refl) (by-given _ _ refl)))))))))))))
+      (by-pick _ _ _ (descriptor 4 _ refl) (by-given _ _ (by-given _ _ refl))))))))))))))
 
   allowed-choice : (type : ℕ) (executable : Bool) → Allowed (choose sec off flags kind address addend type executable)
   unfolding choose

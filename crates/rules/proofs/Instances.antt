@@ -12,7 +12,7 @@ use lib.IntN.{negsuc}
 use Rattle.rules.specs.Answer.{Answer, gives, refuses}
 use Rattle.rules.specs.Range.{byteRange, signed64}
 use Rattle.rules.specs.Types.{lookup, earlierTypes, laterTypes}
-use Rattle.rules.specs.Choose.{given, pick, inRange, rexGotpcrelx, gotpcrelx, gotpcrel, gottpoff, choose, choosing}
+use Rattle.rules.specs.Choose.{given, pick, inRange, rexAbsolute, movLoad, branchTo, tpoffLoad, ldCall, isRex2W, descChoice, rexGotpcrelx, gotpcrelx, gotpcrel, gottpoff, choose, choosing}
 use Rattle.rules.specs.Rewrite.{rewriting, Relaxed, unrelaxed, relaxed, rexMoved, rex2Moved, relaxChosen, relaxing, Holds, Filled}
 use Rattle.rules.specs.Machine.{signed32, field4, read4, read8, write8, put, exec, push, decode, step, addFlags, subFlags, ripRelative}
 use Rattle.rules.specs.Meaning.{covered, head, begins, Instruction, slotValue}
@@ -92,7 +92,7 @@ instance c t =
     (relaxingOf c) refl (and-right (a && b && d && e && f) g t)
 
 pub worked : Worked
-unfolding byteRange signed64 earlierTypes laterTypes lookup given pick inRange rexGotpcrelx gotpcrelx gotpcrel gottpoff choose choosing rewriting rexMoved rex2Moved relaxChosen relaxing signed32 field4 read4 read8 write8 put exec push decode step
+unfolding byteRange signed64 earlierTypes laterTypes lookup given pick inRange rexAbsolute movLoad branchTo tpoffLoad ldCall isRex2W descChoice rexGotpcrelx gotpcrelx gotpcrel gottpoff choose choosing rewriting rexMoved rex2Moved relaxChosen relaxing signed32 field4 read4 read8 write8 put exec push decode step
 worked =
     record {
       all = refl;

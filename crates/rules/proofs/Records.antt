@@ -3,7 +3,7 @@ use mathlib.Core.Path.{refl}
 use Rattle.rules.specs.Range.{byteRange, signed64}
 use Rattle.rules.specs.Types.{earlierTypes, laterTypes, lookup}
 use Rattle.rules.specs.Plt.{template, displacement, inReach, pltAnswer, pltBytes}
-use Rattle.rules.specs.Choose.{given, pick, inRange, rexGotpcrelx, gotpcrelx, gotpcrel, gottpoff, code6Gottpoff, tlsgd, tlsld, tlsdesc, choose, choosing, needsGotFallback}
+use Rattle.rules.specs.Choose.{given, pick, inRange, rexAbsolute, movLoad, branchTo, tpoffLoad, ldCall, isRex2W, descChoice, rexGotpcrelx, gotpcrelx, gotpcrel, gottpoff, code6Gottpoff, tlsgd, tlsld, tlsdesc, choose, choosing, needsGotFallback}
 use Rattle.rules.specs.Rewrite.{rexMoved, rex2Moved, rexCopied, evexMoved, relaxChosen, relaxing}
 use Rattle.rules.specs.Records.{Worked}
 use Rattle.rules.specs.Starred.{StarredHold}
@@ -22,5 +22,5 @@ worked =
     }
 
 pub starred-hold : StarredHold
-unfolding byteRange signed64 earlierTypes laterTypes lookup given pick inRange rexGotpcrelx gotpcrelx gotpcrel gottpoff code6Gottpoff tlsgd tlsld tlsdesc choose choosing rexMoved rex2Moved rexCopied evexMoved relaxChosen relaxing template displacement inReach pltAnswer pltBytes
+unfolding byteRange signed64 earlierTypes laterTypes lookup given pick inRange rexAbsolute movLoad branchTo tpoffLoad ldCall isRex2W descChoice rexGotpcrelx gotpcrelx gotpcrel gottpoff code6Gottpoff tlsgd tlsld tlsdesc choose choosing rexMoved rex2Moved rexCopied evexMoved relaxChosen relaxing template displacement inReach pltAnswer pltBytes
 starred-hold = record { hold = refl }

@@ -13,7 +13,7 @@ use lib.IntN.{ℤ, pos, negsuc}
 use Rattle.rules.specs.Answer.{Answer, gives, refuses}
 use Rattle.rules.specs.Record.{ifunc, isN, isK, isF}
 use Rattle.rules.specs.Kinds.{RelaxationKind, MovIndirectToLea, allowed, fits}
-use Rattle.rules.specs.Choose.{Choice, none, chosen, given, pick, isRexW, isMinus4, rexGotpcrelx, gotpcrelx, gotpcrel, gottpoff, choose, choosing}
+use Rattle.rules.specs.Choose.{Choice, none, chosen, given, pick, isRexW, isMinus4, rexAbsolute, movLoad, branchTo, tpoffLoad, rexGotpcrelx, gotpcrelx, gotpcrel, gottpoff, choose, choosing}
 use Rattle.rules.specs.Rewrite.{toAbsolute, Rewritten, Relaxed, unrelaxed, relaxed, rewrite, rewriting, relaxChosen, relaxing}
 use Rattle.rules.specs.Machine.{ripRelative}
 use Rattle.rules.specs.Meaning.{covered, Instruction, EndsAlike, SameMeaning}
@@ -85,7 +85,7 @@ module _ (sec : List ℕ) (off flags kind address : ℕ) (a : ℤ) where
 
   -- 42 and 43
   rex : (type n : ℕ) → Absolute type n → Lea type → Sound type sec off a (rexGotpcrelx sec off flags kind address a n)
-  unfolding rexGotpcrelx
+  unfolding rexGotpcrelx rexAbsolute
   rex type n absolute lea =
       by-given _ λ g. by-given _ λ f. at-4 a (and-left (isMinus4 a) (isN flags) f) (by-pick _
       (λ _. by-given _ λ _.
@@ -96,7 +96,7 @@ module _ (sec : List ℕ) (off flags kind address : ℕ) (a : ℤ) where
 
   -- 22 and 44, for which the instruction offset is not 6
   thread : (type n : ℕ) → eqb n 6 ≡ false → Absolute type n → Sound type sec off a (gottpoff sec off flags kind address a n)
-  unfolding gottpoff
+  unfolding gottpoff tpoffLoad
   thread type n e absolute =
       by-given _ λ _. by-given _ λ g.
       by-pick _ (λ o. record { means = absolute 3 mov-23 (eqb→eq _ _ o) (pre g) })
@@ -122,7 +122,7 @@ module _ (sec : List ℕ) (off flags kind address : ℕ) (a : ℤ) where
       by-given _ λ o. record { means = lea-rex (i .whole) (i .rip) (i .low) (pre g) (eqb→eq _ _ o) })
 
   plain : Instruction 41 sec off → Sound 41 sec off a (gotpcrelx sec off flags kind address a)
-  unfolding gotpcrelx
+  unfolding gotpcrelx movLoad branchTo
   plain i =
       by-given _ λ f. at-4 a (and-left (isMinus4 a) (leb 2 off) (and-left (isMinus4 a && leb 2 off) (isN flags) f)) (by-pick _
       (λ o. by-pick _

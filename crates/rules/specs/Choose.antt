@@ -59,6 +59,62 @@ tooLong sec = ltb 268435456 (length sec)
 abbrev pub past : List ℕ → ℕ → Bool
 past sec off = ltb (length sec) off
 
+-- a fixed byte string stands before an offset
+abbrev pub stands : List ℕ → ℕ → List ℕ → Bool
+stands sec off string = leb (length string) off && startsWith string (drop (off - length string) sec)
+
+-- "A or (K and F)"
+abbrev pub isFixed : ℕ → ℕ → Bool
+isFixed flags kind = isA flags || (isK flags && isF kind)
+
+-- ---- the rules by what follows their conditions: an opcode, or a sequence's tail; `m` is when it is mandatory
+
+-- 42, 43: "the address, read as signed, must lie in the range of type 11; byte −2 of 8B, 2B, 3B"
+unfoldable pub rexAbsolute : ℕ → ℕ → ℕ → Bool → Choice
+rexAbsolute b address n m =
+    given (inRange 11 (signed64 address))
+    (pick (eqb b 0x8B) (chosen (RexMovIndirectToAbsolute n) 11 m)
+    (pick (eqb b 0x2B) (chosen (RexSubIndirectToAbsolute n) 11 m)
+    (given (eqb b 0x3B) (chosen (RexCmpIndirectToAbsolute n) 11 m))))
+
+-- 41 after 8B: "the address must lie in the range of type 10"
+unfoldable pub movLoad : ℕ → Bool → Bool → Choice
+movLoad address fixed m =
+    pick fixed (given (inRange 10 (signed64 address)) (chosen MovIndirectToAbsolute 10 m)) (chosen MovIndirectToLea 2 m)
+
+-- 41: "FF 15 gives CallIndirectToRelative, FF 25 JmpIndirectToRelative"
+unfoldable pub branchTo : ℕ → Bool → Choice
+branchTo b m = pick (eqb b 0x15) (chosen CallIndirectToRelative 2 m) (given (eqb b 0x25) (chosen JmpIndirectToRelative 2 m))
+
+-- 22, 44: "8B gives RexMov, m: S; 03 gives RexAdd, never mandatory"
+unfoldable pub tpoffLoad : ℕ → ℕ → Bool → Choice
+tpoffLoad b n m =
+    pick (eqb b 0x8B) (chosen (RexMovIndirectToAbsolute n) 23 m) (given (eqb b 0x03) (chosen (RexAddIndirectToAbsolute n) 23 false))
+
+-- "4 with N: NoOp to 2. 31 with N: NoOp to 25"
+abbrev pub noOp : ℕ → ℕ → ℕ → Choice
+noOp t flags kind = given (isN flags) (chosen NoOp t (isS kind))
+
+-- 20: "at +4 E8 and any byte .. 48 B8 .. FF 15"
+unfoldable pub ldCall : List ℕ → Bool → Choice
+ldCall part m =
+    pick (startsWith (0xE8 ∷ []) part && leb 2 (length part)) (chosen TlsLdToLocalExec 0 m)
+    (pick (startsWith (0x48 ∷ 0xB8 ∷ []) part) (chosen TlsLdToLocalExec64 0 false)
+    (given (startsWith (0xFF ∷ 0x15 ∷ []) part) (chosen TlsLdToLocalExecNoPlt 0 m)))
+
+-- 45: "D5, one of 08 0C 48 4C"
+unfoldable pub isRex2W : ℕ → ℕ → Bool
+isRex2W b payload = eqb b 0xD5 && (eqb payload 0x08 || eqb payload 0x0C || eqb payload 0x48 || eqb payload 0x4C)
+
+-- 34, 45: "With N TlsDescToLocalExec(3 or 4) to 23, else TlsDescToInitialExec to 22"
+unfoldable pub descChoice : Bool → ℕ → Bool → Bool → Choice
+descChoice lea n local m =
+    given lea (pick local (chosen (TlsDescToLocalExec n) 23 m) (chosen TlsDescToInitialExec 22 m))
+
+-- "35 with E: SkipTlsDescCall to 0, no byte looked at"
+abbrev pub descCall : ℕ → Choice
+descCall kind = given (isE kind) (chosen SkipTlsDescCall 0 (isS kind))
+
 module _ (sec : List ℕ) (off flags kind address : ℕ) (addend : ℤ) where
   -- "byte −k"
   abbrev byte : ℕ → ℕ
@@ -67,10 +123,6 @@ module _ (sec : List ℕ) (off flags kind address : ℕ) (addend : ℤ) where
   -- "the part of the section that starts at offset + 4"
   abbrev tail : List ℕ
   tail = drop (off + 4) sec
-
-  -- a fixed byte string stands before the offset
-  abbrev stands : List ℕ → Bool
-  stands string = leb (length string) off && startsWith string (drop (off - length string) sec)
 
   abbrev N : Bool
   N = isN flags
@@ -84,33 +136,20 @@ module _ (sec : List ℕ) (off flags kind address : ℕ) (addend : ℤ) where
   abbrev S : Bool
   S = isS kind
 
-  -- "A or (K and F)"
-  abbrev fixed : Bool
-  fixed = isA flags || (isK flags && isF kind)
-
   -- 42, 43, with instruction offset n; "for 43 the byte −4 changes nothing"
   unfoldable pub rexGotpcrelx : ℕ → Choice
   rexGotpcrelx n =
       given (leb 3 off && isRexW (byte 3))
       (given (isMinus4 addend && N)
-      (pick fixed
-      (given (inRange 11 (signed64 address))
-      (pick (eqb (byte 2) 0x8B) (chosen (RexMovIndirectToAbsolute n) 11 (S && A))
-      (pick (eqb (byte 2) 0x2B) (chosen (RexSubIndirectToAbsolute n) 11 (S && A))
-      (given (eqb (byte 2) 0x3B) (chosen (RexCmpIndirectToAbsolute n) 11 (S && A))))))
+      (pick (isFixed flags kind) (rexAbsolute (byte 2) address n (S && A))
       (given (eqb (byte 2) 0x8B) (chosen MovIndirectToLea 2 S))))
 
   -- 41
   unfoldable pub gotpcrelx : Choice
   gotpcrelx =
       given (isMinus4 addend && leb 2 off && N)
-      (pick (eqb (byte 2) 0x8B)
-      (pick fixed
-      (given (inRange 10 (signed64 address)) (chosen MovIndirectToAbsolute 10 S))
-      (chosen MovIndirectToLea 2 S))
-      (given (eqb (byte 2) 0xFF)
-      (pick (eqb (byte 1) 0x15) (chosen CallIndirectToRelative 2 (S && isP kind))
-      (given (eqb (byte 1) 0x25) (chosen JmpIndirectToRelative 2 (S && isP kind))))))
+      (pick (eqb (byte 2) 0x8B) (movLoad address (isFixed flags kind) S)
+      (given (eqb (byte 2) 0xFF) (branchTo (byte 1) (S && isP kind))))
 
   -- 9
   unfoldable pub gotpcrel : Choice
@@ -122,10 +161,7 @@ module _ (sec : List ℕ) (off flags kind address : ℕ) (addend : ℤ) where
   -- 22, 44, with instruction offset n
   unfoldable pub gottpoff : ℕ → Choice
   gottpoff n =
-      given (E && N)
-      (given (leb 3 off && isRexW (byte 3))
-      (pick (eqb (byte 2) 0x8B) (chosen (RexMovIndirectToAbsolute n) 23 S)
-      (given (eqb (byte 2) 0x03) (chosen (RexAddIndirectToAbsolute n) 23 false))))
+      given (E && N) (given (leb 3 off && isRexW (byte 3)) (tpoffLoad (byte 2) n S))
 
   -- 50
   unfoldable pub code6Gottpoff : Choice
@@ -138,27 +174,20 @@ module _ (sec : List ℕ) (off flags kind address : ℕ) (addend : ℤ) where
   unfoldable pub tlsgd : Choice
   tlsgd =
       given E
-      (pick (stands (0x66 ∷ 0x48 ∷ 0x8D ∷ 0x3D ∷ []) && (startsWith (0x66 ∷ 0x66 ∷ 0x48 ∷ 0xE8 ∷ []) tail || startsWith (0x66 ∷ 0x48 ∷ 0xFF ∷ 0x15 ∷ []) tail))
+      (pick (stands sec off (0x66 ∷ 0x48 ∷ 0x8D ∷ 0x3D ∷ []) && (startsWith (0x66 ∷ 0x66 ∷ 0x48 ∷ 0xE8 ∷ []) tail || startsWith (0x66 ∷ 0x48 ∷ 0xFF ∷ 0x15 ∷ []) tail))
       (pick N (chosen TlsGdToLocalExec 23 S) (chosen TlsGdToInitialExec 22 false))
-      (given (stands (0x48 ∷ 0x8D ∷ 0x3D ∷ []) && startsWith (0x48 ∷ 0xB8 ∷ []) tail && startsWith (0x48 ∷ 0x01 ∷ 0xD8 ∷ 0xFF ∷ 0xD0 ∷ []) (drop 10 tail))
+      (given (stands sec off (0x48 ∷ 0x8D ∷ 0x3D ∷ []) && startsWith (0x48 ∷ 0xB8 ∷ []) tail && startsWith (0x48 ∷ 0x01 ∷ 0xD8 ∷ 0xFF ∷ 0xD0 ∷ []) (drop 10 tail))
       (given N (chosen TlsGdToLocalExecLarge 23 S))))
 
   -- 20; "N not asked"; "E8 and any byte"
   unfoldable pub tlsld : Choice
   tlsld =
-      given (E && stands (0x48 ∷ 0x8D ∷ 0x3D ∷ []))
-      (pick (startsWith (0xE8 ∷ []) tail && leb 2 (length tail)) (chosen TlsLdToLocalExec 0 S)
-      (pick (startsWith (0x48 ∷ 0xB8 ∷ []) tail) (chosen TlsLdToLocalExec64 0 false)
-      (given (startsWith (0xFF ∷ 0x15 ∷ []) tail) (chosen TlsLdToLocalExecNoPlt 0 S))))
+      given (E && stands sec off (0x48 ∷ 0x8D ∷ 0x3D ∷ [])) (ldCall tail S)
 
   -- 34, 45: "8D, modrm; modrm AND C7 = 05"
   unfoldable pub tlsdesc : ℕ → Bool → Choice
   tlsdesc n prefix =
-      given (E && leb n off && prefix && eqb (byte 2) 0x8D && eqb (bitAnd (byte 1) 0xC7) 0x05)
-      (pick N (chosen (TlsDescToLocalExec n) 23 S) (chosen TlsDescToInitialExec 22 S))
-
-  abbrev pub rex2Lea : Bool
-  rex2Lea = eqb (byte 4) 0xD5 && (eqb (byte 3) 0x08 || eqb (byte 3) 0x0C || eqb (byte 3) 0x48 || eqb (byte 3) 0x4C)
+      descChoice (E && leb n off && prefix && eqb (byte 2) 0x8D && eqb (bitAnd (byte 1) 0xC7) 0x05) n N S
 
   -- the types of an executable section that are not ifuncs; "All else: none"
   abbrev pub byType : ℕ → Choice
@@ -170,13 +199,13 @@ module _ (sec : List ℕ) (off flags kind address : ℕ) (addend : ℤ) where
       (pick (eqb type 22) (gottpoff 3)
       (pick (eqb type 44) (gottpoff 4)
       (pick (eqb type 50) code6Gottpoff
-      (pick (eqb type 4) (given N (chosen NoOp 2 S))
-      (pick (eqb type 31) (given N (chosen NoOp 25 S))
+      (pick (eqb type 4) (noOp 2 flags kind)
+      (pick (eqb type 31) (noOp 25 flags kind)
       (pick (eqb type 19) tlsgd
       (pick (eqb type 20) tlsld
       (pick (eqb type 34) (tlsdesc 3 (isRexW (byte 3)))
-      (pick (eqb type 45) (tlsdesc 4 rex2Lea)
-      (given (eqb type 35 && E) (chosen SkipTlsDescCall 0 S))))))))))))))
+      (pick (eqb type 45) (tlsdesc 4 (isRex2W (byte 4) (byte 3)))
+      (given (eqb type 35) (descCall kind))))))))))))))
 
   -- "Ifunc: type 2 gives NoOp to 4, always mandatory; every other type none. This precedes the executable check"; "Not executable: none"
   unfoldable pub choose : ℕ → Bool → Choice

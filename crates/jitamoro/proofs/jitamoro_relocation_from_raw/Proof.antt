@@ -1,6 +1,6 @@
 -- `jitamoro_relocation_from_raw` meets its contract: the code's answer is that of the rules, so that its layout is.
 -- Assumes nothing.
-use mathlib.Core.Path.{_≡_, refl, sym, ap, _∙_}
+use mathlib.Core.Path.{_≡_, sym, ap, _∙_}
 use native.Mathlib.Omega.{arith}
 use Prim.Native.Nat.{ℕ}
 use borrow.Author.Needs.{needs}

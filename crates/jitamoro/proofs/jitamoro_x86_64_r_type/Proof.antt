@@ -1,6 +1,6 @@
 -- `jitamoro_x86_64_r_type` meets its contract: each kind computes, and past the ten there is none.
 -- Assumes nothing.
-use mathlib.Core.Path.{_≡_, sym}
+use mathlib.Core.Path.{_≡_}
 use Prim.Native.Nat.{_+_, _-_}
 use native.Mathlib.Omega.{arith}
 use lib.Seq.{getD-drop}

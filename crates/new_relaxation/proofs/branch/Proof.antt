@@ -1,7 +1,6 @@
 -- `branch` meets its contract.
 -- Assumes nothing.
-use Rattle.new_relaxation.specs.Choices.{branchTo}
-use Rattle.rules.specs.Choose.{given, pick}
+use Rattle.rules.specs.Choose.{given, pick, branchTo}
 use borrow.Author.Needs.{needs}
 use borrow.Author.Tests.{ne-eqb}
 use Rattle.new_relaxation.proofs.branch.Statement.{statement}

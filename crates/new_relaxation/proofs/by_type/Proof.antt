@@ -1,9 +1,8 @@
 -- `by_type` meets its contract, type by type; the range and the rest by a law each.
 -- Assumes nothing.
 use Rattle.new_relaxation.proofs.Types.{in-range, below, above}
-use Rattle.new_relaxation.specs.Choices.{isRex2W}
 use Rattle.output_kind.specs.Output.{outputNumber}
-use Rattle.rules.specs.Choose.{given, pick}
+use Rattle.rules.specs.Choose.{given, pick, isRex2W}
 use borrow.Author.Needs.{needs}
 use Rattle.new_relaxation.proofs.by_type.Statement.{statement}
 use Rattle.new_relaxation.proofs.by_type.Tie as tie

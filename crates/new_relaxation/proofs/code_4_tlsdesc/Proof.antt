@@ -1,8 +1,7 @@
 -- `code_4_tlsdesc` meets its contract.
 -- Assumes nothing.
 use Rattle.new_relaxation.proofs.Tests.{and-false, and-true}
-use Rattle.new_relaxation.specs.Choices.{descChoice}
-use Rattle.rules.specs.Choose.{given, pick, tlsdesc}
+use Rattle.rules.specs.Choose.{given, pick, tlsdesc, descChoice}
 use borrow.Author.Needs.{needs}
 use borrow.Author.Tests.{le-leb, le-ltb, lt-leb, lt-ltb}
 use Rattle.new_relaxation.proofs.code_4_tlsdesc.Statement.{statement}

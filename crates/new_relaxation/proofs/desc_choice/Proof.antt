@@ -1,7 +1,6 @@
 -- `desc_choice` meets its contract.
 -- Assumes nothing.
-use Rattle.new_relaxation.specs.Choices.{descChoice}
-use Rattle.rules.specs.Choose.{given, pick}
+use Rattle.rules.specs.Choose.{given, pick, descChoice}
 use borrow.Author.Needs.{needs}
 use Rattle.new_relaxation.proofs.desc_choice.Statement.{statement}
 use Rattle.new_relaxation.proofs.desc_choice.Tie as tie

@@ -1,8 +1,7 @@
 -- `gotpcrelx` meets its contract.
 -- Assumes nothing.
 use Rattle.new_relaxation.proofs.Tests.{and-false, and-true}
-use Rattle.new_relaxation.specs.Choices.{branchTo, movLoad}
-use Rattle.rules.specs.Choose.{given, gotpcrelx, isMinus4, pick}
+use Rattle.rules.specs.Choose.{given, gotpcrelx, isMinus4, pick, branchTo, movLoad}
 use borrow.Author.Needs.{needs}
 use borrow.Author.Tests.{lt-leb, le-leb, ne-eqb}
 use Rattle.new_relaxation.proofs.gotpcrelx.Statement.{statement}

@@ -1,7 +1,6 @@
 -- `gottpoff` meets its contract.
 -- Assumes nothing.
-use Rattle.new_relaxation.specs.Choices.{tpoffLoad}
-use Rattle.rules.specs.Choose.{given, gottpoff, pick}
+use Rattle.rules.specs.Choose.{given, gottpoff, pick, tpoffLoad}
 use borrow.Author.Needs.{needs}
 use borrow.Author.Tests.{le-leb, le-ltb, lt-leb, lt-ltb}
 use Rattle.new_relaxation.proofs.gottpoff.Statement.{statement}

@@ -1,7 +1,7 @@
 -- `is_rex2_w` meets its contract.
 -- Assumes nothing.
 use mathlib.Core.Path.{refl}
-use Rattle.new_relaxation.specs.Choices.{isRex2W}
+use Rattle.rules.specs.Choose.{isRex2W}
 use Rattle.new_relaxation.proofs.is_rex2_w.Statement.{statement}
 use Rattle.new_relaxation.proofs.is_rex2_w.Tie as tie
 

@@ -1,7 +1,6 @@
 -- `ld_call` meets its contract.
 -- Assumes nothing.
-use Rattle.new_relaxation.specs.Choices.{ldCall}
-use Rattle.rules.specs.Choose.{given, pick}
+use Rattle.rules.specs.Choose.{given, pick, ldCall}
 use borrow.Author.Needs.{needs}
 use Rattle.new_relaxation.proofs.ld_call.Statement.{statement}
 use Rattle.new_relaxation.proofs.ld_call.Tie as tie

@@ -1,7 +1,6 @@
 -- `mov_load` meets its contract.
 -- Assumes nothing.
-use Rattle.new_relaxation.specs.Choices.{movLoad}
-use Rattle.rules.specs.Choose.{given, pick}
+use Rattle.rules.specs.Choose.{given, pick, movLoad}
 use borrow.Author.Needs.{needs}
 use Rattle.new_relaxation.proofs.mov_load.Statement.{statement}
 use Rattle.new_relaxation.proofs.mov_load.Tie as tie

@@ -1,7 +1,6 @@
 -- `rex_absolute` meets its contract.
 -- Assumes nothing.
-use Rattle.new_relaxation.specs.Choices.{rexAbsolute}
-use Rattle.rules.specs.Choose.{given, pick}
+use Rattle.rules.specs.Choose.{given, pick, rexAbsolute}
 use borrow.Author.Needs.{needs}
 use borrow.Author.Tests.{ne-eqb}
 use Rattle.new_relaxation.proofs.rex_absolute.Statement.{statement}

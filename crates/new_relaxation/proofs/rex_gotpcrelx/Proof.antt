@@ -1,7 +1,6 @@
 -- `rex_gotpcrelx` meets its contract.
 -- Assumes nothing.
-use Rattle.new_relaxation.specs.Choices.{rexAbsolute}
-use Rattle.rules.specs.Choose.{given, pick, rexGotpcrelx}
+use Rattle.rules.specs.Choose.{given, pick, rexGotpcrelx, rexAbsolute}
 use borrow.Author.Needs.{needs}
 use borrow.Author.Tests.{le-leb, le-ltb, lt-leb, lt-ltb, ne-eqb}
 use Rattle.new_relaxation.proofs.rex_gotpcrelx.Statement.{statement}

@@ -1,7 +1,6 @@
 -- `tlsld` meets its contract.
 -- Assumes nothing.
-use Rattle.new_relaxation.specs.Choices.{ldCall}
-use Rattle.rules.specs.Choose.{given, tlsld}
+use Rattle.rules.specs.Choose.{given, tlsld, ldCall}
 use borrow.Author.Needs.{needs}
 use Rattle.new_relaxation.proofs.tlsld.Statement.{statement}
 use Rattle.new_relaxation.proofs.tlsld.Tie as tie

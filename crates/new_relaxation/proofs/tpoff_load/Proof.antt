@@ -1,7 +1,6 @@
 -- `tpoff_load` meets its contract.
 -- Assumes nothing.
-use Rattle.new_relaxation.specs.Choices.{tpoffLoad}
-use Rattle.rules.specs.Choose.{given, pick}
+use Rattle.rules.specs.Choose.{given, pick, tpoffLoad}
 use borrow.Author.Needs.{needs}
 use borrow.Author.Tests.{ne-eqb}
 use Rattle.new_relaxation.proofs.tpoff_load.Statement.{statement}
