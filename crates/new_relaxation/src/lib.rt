@@ -212,8 +212,9 @@ fn rex_gotpcrelx(section_bytes: &[u8], offset: usize, q: Asked, inst_offset: u8)
         return Choice::Nothing;
     }
     let b1 = section_bytes[offset - 2];
+    let rex = section_bytes[offset - 3];
     // REX prefixed instruction with W=1, R=0/1, X=0, B=0
-    let rex_w = is_rex_w(section_bytes[offset - 3]);
+    let rex_w = is_rex_w(rex);
     let relaxable = is_minus_4(q) & is_non_interposable(flags);
     if rex_w {
         if relaxable {
