@@ -2,7 +2,7 @@
 ghost use mathlib.Core.Path.{_≡_};
 ghost use Rattle.rules.specs.Range.{unchecked, within, contains, byteRange, signed64, Keeps};
 ghost use Rattle.rules.specs.Types.{dynamicType, kindNumber};
-ghost use Rattle.elf.specs.Elf.{rangeOf, rangeFrom, widthOf, signOf, kindOf, dynamicNumber};
+ghost use Rattle.elf.specs.Elf.{rangeOf, rangeFrom, widthOf, signOf, kindOf, dynamicNumber, skips};
 
 pub enum Sign {
     Signed,
@@ -202,4 +202,15 @@ pub struct RelocationKindInfo {
 pub enum RelocationModifier {
     Normal,
     SkipNextRelocation,
+}
+
+impl RelocationModifier {
+    pub fn is_skip(self) -> bool
+        ensures { λ r. ⌜ r ≡ skips self ⌝ }
+    {
+        match self {
+            RelocationModifier::Normal => false,
+            RelocationModifier::SkipNextRelocation => true,
+        }
+    }
 }

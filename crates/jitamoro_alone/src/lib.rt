@@ -3,10 +3,8 @@
 ghost use mathlib.Core.Path.{_≡_};
 ghost use Rattle.rules.specs.Choose.{choosing};
 ghost use Rattle.rules.specs.Rewrite.{rewriting, afterRewriting};
-ghost use Rattle.elf.specs.Elf.{skips as skipsNext};
 ghost use Rattle.relaxation_kind.specs.Kind.{numbered};
 ghost use Rattle.jitamoro_alone.specs.Alone.{chosenNot, relaxationLayout, choiceLayout, movedLayout};
-use elf::RelocationModifier;
 use new_relaxation::Choice;
 use relaxation::Relaxation;
 use relaxation_kind::RelaxationKind;
@@ -122,17 +120,8 @@ pub fn choice_answer(relaxation: Relaxation) -> ChoiceAnswer
         kind: kind.number(),
         inst_offset: kind.inst_offset(),
         mandatory: relaxation.is_mandatory(),
-        skip_next: is_skip(relaxation.next_modifier()),
+        skip_next: relaxation.next_modifier().is_skip(),
         needs_got_fallback: relaxation.needs_got_fallback(),
         new_type: relaxation.new_type,
-    }
-}
-
-fn is_skip(modifier: RelocationModifier) -> bool
-    ensures { λ r. ⌜ r ≡ skipsNext modifier ⌝ }
-{
-    match modifier {
-        RelocationModifier::Normal => false,
-        RelocationModifier::SkipNextRelocation => true,
     }
 }
