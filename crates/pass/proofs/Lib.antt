@@ -1,2 +1,3 @@
 pub mod Stepping
 pub mod Steps
+pub mod Walk

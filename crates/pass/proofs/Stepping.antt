@@ -43,7 +43,7 @@ relaxing-rewrites sec r k t m x e =
 -- ---- a step
 
 module _ (p : Pass) (sec : List ℕ) (r : Relocation) where
-  abbrev Sound : Answer Accepted → Type 0
+  abbrev pub Sound : Answer Accepted → Type 0
   Sound (refuses n) = Unit {0}
   Sound (gives skipped) = ltb (r .offset) (p .last) ≡ false
   Sound (gives (took unrelaxed)) = ltb (r .offset) (p .last) ≡ false

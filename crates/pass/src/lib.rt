@@ -4,6 +4,7 @@ ghost use mathlib.Core.Path.{_≡_};
 ghost use Rattle.relaxation_kind.specs.Kind.{kindOf};
 ghost use Rattle.windows.specs.Windows.{spanOf};
 ghost use Rattle.pass.specs.Pass.{relocation, freshPass, stepping, passAfter, bytesAfter, ending, endedPass};
+ghost use Rattle.pass.specs.Walk.{Walks};
 ghost use Rattle.pass.specs.Answers.{stepOf, endOf, StepKeepsMeaning, placed, inOrder, verdictOf, tookStep, skippedStep, refusedStep};
 use new_relaxation::Choice;
 use relax::Relaxed;
@@ -52,9 +53,10 @@ enum Verdict {
 }
 
 impl Pass {
-    // A pass before its first record.
+    // A pass before its first record. The contract also says what every walk means, from any pass on.
     pub fn fresh() -> Pass
         ensures { λ r. ⌜ r ≡ freshPass ⌝ }
+        ensures { λ _. ⌜ Walks ⌝ }
     {
         Pass {
             last: 0,

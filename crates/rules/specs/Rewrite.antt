@@ -58,6 +58,36 @@ abbrev pub evexToAbsolute : List ℕ → ℕ → List ℕ
 evexToAbsolute sec at =
     sets (sets sec (at - 5) (evexMoved (getD sec (at - 5) 0) ∷ [])) (at - 2) (0x81 ∷ direct 0 (getD sec (at - 1) 0) ∷ [])
 
+-- mov %fs:0,%rax; lea {offset}(%rax),%rax
+abbrev pub gdToLocalExec : List ℕ
+gdToLocalExec =
+    0x64 ∷ 0x48 ∷ 0x8B ∷ 0x04 ∷ 0x25 ∷ 0 ∷ 0 ∷ 0 ∷ 0 ∷ 0x48 ∷ 0x8D ∷ 0x80 ∷ []
+
+-- mov %fs:0,%rax; lea {offset}(%rax),%rax; nopw (%rax,%rax)
+abbrev pub gdToLocalExecLarge : List ℕ
+gdToLocalExecLarge =
+    0x64 ∷ 0x48 ∷ 0x8B ∷ 0x04 ∷ 0x25 ∷ 0 ∷ 0 ∷ 0 ∷ 0 ∷ 0x48 ∷ 0x8D ∷ 0x80 ∷ 0 ∷ 0 ∷ 0 ∷ 0 ∷ 0x66 ∷ 0x0F ∷ 0x1F ∷ 0x44 ∷ 0 ∷ 0 ∷ []
+
+-- mov %fs:0,%rax, with prefixes
+abbrev pub ldToLocalExec : List ℕ
+ldToLocalExec =
+    0x66 ∷ 0x66 ∷ 0x66 ∷ 0x64 ∷ 0x48 ∷ 0x8B ∷ 0x04 ∷ 0x25 ∷ 0 ∷ 0 ∷ 0 ∷ 0 ∷ []
+
+-- the same, with one prefix more
+abbrev pub ldToLocalExecNoPlt : List ℕ
+ldToLocalExecNoPlt =
+    0x66 ∷ 0x66 ∷ 0x66 ∷ 0x66 ∷ 0x64 ∷ 0x48 ∷ 0x8B ∷ 0x04 ∷ 0x25 ∷ 0 ∷ 0 ∷ 0 ∷ 0 ∷ []
+
+-- nopw (%rax,%rax); mov %fs:0,%rax
+abbrev pub ldToLocalExec64 : List ℕ
+ldToLocalExec64 =
+    0x66 ∷ 0x66 ∷ 0x66 ∷ 0x66 ∷ 0x2E ∷ 0x0F ∷ 0x1F ∷ 0x84 ∷ 0 ∷ 0 ∷ 0 ∷ 0 ∷ 0 ∷ 0x64 ∷ 0x48 ∷ 0x8B ∷ 0x04 ∷ 0x25 ∷ 0 ∷ 0 ∷ 0 ∷ 0 ∷ []
+
+-- mov %fs:0,%rax; add *x,%rax
+abbrev pub gdToInitialExec : List ℕ
+gdToInitialExec =
+    0x64 ∷ 0x48 ∷ 0x8B ∷ 0x04 ∷ 0x25 ∷ 0 ∷ 0 ∷ 0 ∷ 0 ∷ 0x48 ∷ 0x03 ∷ 0x05 ∷ []
+
 abbrev pub rewritten : RelaxationKind → List ℕ → ℕ → List ℕ
 rewritten MovIndirectToLea sec at = sets sec (at - 2) (0x8D ∷ [])
 rewritten MovIndirectToAbsolute sec at = sets sec (at - 2) (0xC7 ∷ direct 0 (getD sec (at - 1) 0) ∷ [])
@@ -70,23 +100,12 @@ rewritten (RexCmpIndirectToAbsolute n) sec at = toAbsolute n 0x81 7 sec at
 rewritten CallIndirectToRelative sec at = sets sec (at - 2) (0x67 ∷ 0xE8 ∷ [])
 rewritten JmpIndirectToRelative sec at = sets sec (at - 2) (0xE9 ∷ 0 ∷ 0 ∷ 0 ∷ 0 ∷ 0x90 ∷ [])
 rewritten NoOp sec at = sec
--- mov %fs:0,%rax; lea {offset}(%rax),%rax
-rewritten TlsGdToLocalExec sec at =
-    sets sec (at - 4) (0x64 ∷ 0x48 ∷ 0x8B ∷ 0x04 ∷ 0x25 ∷ 0 ∷ 0 ∷ 0 ∷ 0 ∷ 0x48 ∷ 0x8D ∷ 0x80 ∷ [])
--- mov %fs:0,%rax; lea {offset}(%rax),%rax; nopw (%rax,%rax)
-rewritten TlsGdToLocalExecLarge sec at =
-    sets sec (at - 3) (0x64 ∷ 0x48 ∷ 0x8B ∷ 0x04 ∷ 0x25 ∷ 0 ∷ 0 ∷ 0 ∷ 0 ∷ 0x48 ∷ 0x8D ∷ 0x80 ∷ 0 ∷ 0 ∷ 0 ∷ 0 ∷ 0x66 ∷ 0x0F ∷ 0x1F ∷ 0x44 ∷ 0 ∷ 0 ∷ [])
--- mov %fs:0,%rax, with prefixes
-rewritten TlsLdToLocalExec sec at =
-    sets sec (at - 3) (0x66 ∷ 0x66 ∷ 0x66 ∷ 0x64 ∷ 0x48 ∷ 0x8B ∷ 0x04 ∷ 0x25 ∷ 0 ∷ 0 ∷ 0 ∷ 0 ∷ [])
-rewritten TlsLdToLocalExecNoPlt sec at =
-    sets sec (at - 3) (0x66 ∷ 0x66 ∷ 0x66 ∷ 0x66 ∷ 0x64 ∷ 0x48 ∷ 0x8B ∷ 0x04 ∷ 0x25 ∷ 0 ∷ 0 ∷ 0 ∷ 0 ∷ [])
--- nopw (%rax,%rax); mov %fs:0,%rax
-rewritten TlsLdToLocalExec64 sec at =
-    sets sec (at - 3) (0x66 ∷ 0x66 ∷ 0x66 ∷ 0x66 ∷ 0x2E ∷ 0x0F ∷ 0x1F ∷ 0x84 ∷ 0 ∷ 0 ∷ 0 ∷ 0 ∷ 0 ∷ 0x64 ∷ 0x48 ∷ 0x8B ∷ 0x04 ∷ 0x25 ∷ 0 ∷ 0 ∷ 0 ∷ 0 ∷ [])
--- mov %fs:0,%rax; add *x,%rax
-rewritten TlsGdToInitialExec sec at =
-    sets sec (at - 4) (0x64 ∷ 0x48 ∷ 0x8B ∷ 0x04 ∷ 0x25 ∷ 0 ∷ 0 ∷ 0 ∷ 0 ∷ 0x48 ∷ 0x03 ∷ 0x05 ∷ [])
+rewritten TlsGdToLocalExec sec at = sets sec (at - 4) gdToLocalExec
+rewritten TlsGdToLocalExecLarge sec at = sets sec (at - 3) gdToLocalExecLarge
+rewritten TlsLdToLocalExec sec at = sets sec (at - 3) ldToLocalExec
+rewritten TlsLdToLocalExecNoPlt sec at = sets sec (at - 3) ldToLocalExecNoPlt
+rewritten TlsLdToLocalExec64 sec at = sets sec (at - 3) ldToLocalExec64
+rewritten TlsGdToInitialExec sec at = sets sec (at - 4) gdToInitialExec
 rewritten (TlsDescToLocalExec n) sec at = toAbsolute n 0xC7 0 sec at
 rewritten TlsDescToInitialExec sec at = sets sec (at - 2) (0x8B ∷ [])
 -- xchg %ax,%ax

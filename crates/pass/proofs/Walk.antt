@@ -1,0 +1,156 @@
+-- What holds of every walk, by induction over the records: what one answer says of the pass and the section is what the rest goes on from.
+-- Assumes nothing.
+use mathlib.Core.Path.{_≡_, refl, ap, _∙_}
+use mathlib.Core.Logic.{_⊎_, inl, inr}
+use mathlib.Core.Bool.{Bool, true, false, cond, _&&_, false≢true}
+use mathlib.Core.List.{List, [], _∷_, _++_}
+use Prim.Native.Nat.{ℕ, zero, suc, _+_, _<_, _≤_}
+use native.Mathlib.Nat.{add-zero, le-trans, le-of-lt, le-of-suc-le-suc, not-suc-le-zero}
+use native.Mathlib.Omega.{arith}
+use lib.Dec.{ltb}
+use lib.ListN.{length, getD}
+use borrow.Author.Tests.{ltb-true, ltb-false, leb-true, eqb-true, eqb-false}
+use Rattle.rules.specs.Answer.{Answer, gives, refuses}
+use Rattle.rules.specs.Kinds.{RelaxationKind, shapeOf, fits}
+use Rattle.rules.specs.Rewrite.{Rewritten, unrelaxed, relaxed, rewritten, afterRelaxing}
+use Rattle.windows.specs.Windows.{isEmpty, begin, end}
+use Rattle.windows.proofs.Kept.{Kept, kept}
+use Rattle.pass.specs.declared.Pass.{Pass}
+use Rattle.pass.specs.Pass.{Relocation, relaxingOf, Accepted, took, skipped, overlaps, stepping, passAfter, bytesAfter}
+use Rattle.pass.specs.Walk.{Walk, answer, after, stepped, walk, answers, offsetOf, offsets, Part, partOf, parts, Rising, Apart, Outside, Walks}
+use Rattle.pass.proofs.Stepping.{Sound, step-sound, relaxing-rewrites}
+
+-- ---- order
+
+order :
+    (w : Walk) (before : List Relocation) (r : Relocation) (rest : List Relocation)
+    → answers w (before ++ r ∷ rest) ≡ answers w before ++ answer (walk w before) r ∷ answers (stepped (walk w before) r) rest
+order w [] r rest = refl
+order w (b ∷ before) r rest = ap (λ (l : List (Answer Accepted)). answer w b ∷ l) (order (stepped w b) before r rest)
+
+joined : (w : Walk) (before rest : List Relocation) → walk w (before ++ rest) ≡ walk (walk w before) rest
+joined w [] rest = refl
+joined w (b ∷ before) rest = joined (stepped w b) before rest
+
+-- ---- one record
+
+side : (i b : ℕ) → (i < b) ⊎ (b ≤ i)
+side i b = by (ltb i b) refl where
+  by : (t : Bool) → ltb i b ≡ t → (i < b) ⊎ (b ≤ i)
+  by true e = inl (ltb-true i b e)
+  by false e = inr (ltb-false i b e)
+
+both : (a b : Bool) → (a && b) ≡ true → a ≡ true
+both true b h = refl
+both false b h = absurd (false≢true h)
+
+module _ (p : Pass) (sec : List ℕ) (r : Relocation) where
+  rises : (a : Answer Accepted) (os : List ℕ) → Sound p sec r a → Rising (passAfter p (r .offset) a .last) os → Rising (p .last) (offsetOf (r .offset) a ++ os)
+  unfolding passAfter
+  rises (refuses n) os s h = h
+  rises (gives skipped) os s h = (ltb-false _ _ s, h)
+  rises (gives (took unrelaxed)) os s h = (ltb-false _ _ s, h)
+  rises (gives (took (relaxed k t m x))) os s h = (ltb-false _ _ (s .0), h)
+
+  -- a relaxed record's window: where it begins, and what it holds
+  clears :
+      (k : RelaxationKind) (empty : Bool) (xs : List Part) → isEmpty k ≡ empty → cond empty false (ltb (begin k (r .offset)) (p .window)) ≡ false
+      → Apart (cond empty (p .window) (end k (r .offset))) xs
+      → Apart (p .window) (cond empty [] (record { from = begin k (r .offset); to = end k (r .offset) } ∷ []) ++ xs)
+  clears k true xs e o h = h
+  clears k false xs e o h =
+      let n = eqb-false (shapeOf k .size) 0 e in
+      (ltb-false _ _ o, positive (begin k (r .offset)) (shapeOf k .size) n, h)
+    where
+      positive : (b n : ℕ) → (n ≡ 0 → ⊥) → b < b + n
+      positive b zero g = absurd (g refl)
+      positive b (suc n) g = omega arith
+
+  stays-apart : (a : Answer Accepted) (xs : List Part) → Sound p sec r a → Apart (passAfter p (r .offset) a .window) xs → Apart (p .window) (partOf (r .offset) a ++ xs)
+  unfolding passAfter
+  stays-apart (refuses n) xs s h = h
+  stays-apart (gives skipped) xs s h = h
+  stays-apart (gives (took unrelaxed)) xs s h = h
+  stays-apart (gives (took (relaxed k t m x))) xs s h = clears k (isEmpty k) xs refl (s .1 .1) h
+
+  -- a byte lies outside a window that is empty
+  misses :
+      (k : RelaxationKind) (empty : Bool) (i : ℕ) (xs : List Part) → isEmpty k ≡ empty
+      → Outside i (cond empty [] (record { from = begin k (r .offset); to = end k (r .offset) } ∷ []) ++ xs)
+      → ((i < begin k (r .offset)) ⊎ (end k (r .offset) ≤ i)) × Outside i xs
+  misses k false i xs e h = h
+  misses k true i xs e h = (rw (eqb-true (shapeOf k .size) 0 e, add-zero (begin k (r .offset))) (side i (begin k (r .offset))), h)
+
+  -- the section once a record is relaxed: rewriting keeps every byte outside the window
+  rewrites : (k : RelaxationKind) (t : ℕ) (m : Bool) (x : Rewritten) → relaxingOf sec r ≡ gives (relaxed k t m x) → Kept (begin k (r .offset)) (end k (r .offset)) sec (x .bytes)
+  rewrites k t m x e =
+      let f = relaxing-rewrites sec r k t m x e in
+      rw (f .1) (kept k sec (r .offset) (leb-true _ _ (both _ _ (f .0))))
+
+  keeps : (a : Answer Accepted) (i : ℕ) (xs : List Part) → Sound p sec r a → Outside i (partOf (r .offset) a ++ xs) → (getD (bytesAfter sec a) i 0 ≡ getD sec i 0) × Outside i xs
+  unfolding bytesAfter afterRelaxing
+  keeps (refuses n) i xs s h = (refl, h)
+  keeps (gives skipped) i xs s h = (refl, h)
+  keeps (gives (took unrelaxed)) i xs s h = (refl, h)
+  keeps (gives (took (relaxed k t m x))) i xs s h =
+      let g = misses k (isEmpty k) i xs refl h in
+      (rewrites k t m x (s .1 .0) .outside i (g .0), g .1)
+
+  sized : (a : Answer Accepted) → Sound p sec r a → length (bytesAfter sec a) ≡ length sec
+  unfolding bytesAfter afterRelaxing
+  sized (refuses n) s = refl
+  sized (gives skipped) s = refl
+  sized (gives (took unrelaxed)) s = refl
+  sized (gives (took (relaxed k t m x))) s = rewrites k t m x (s .1 .0) .size
+
+-- ---- every walk
+
+sound : (w : Walk) (r : Relocation) → Sound (w .pass) (w .section) r (answer w r)
+sound w r = step-sound (w .pass) (w .section) r
+
+rising : (w : Walk) (rs : List Relocation) → Rising (w .pass .last) (offsets w rs)
+rising w [] = tt
+rising w (r ∷ rs) = rises (w .pass) (w .section) r (answer w r) (offsets (stepped w r) rs) (sound w r) (rising (stepped w r) rs)
+
+apart : (w : Walk) (rs : List Relocation) → Apart (w .pass .window) (parts w rs)
+apart w [] = tt
+apart w (r ∷ rs) = stays-apart (w .pass) (w .section) r (answer w r) (parts (stepped w r) rs) (sound w r) (apart (stepped w r) rs)
+
+held : (w : Walk) (rs : List Relocation) (i : ℕ) → Outside i (parts w rs) → getD (walk w rs .section) i 0 ≡ getD (w .section) i 0
+held w [] i h = refl
+held w (r ∷ rs) i h =
+    let g = keeps (w .pass) (w .section) r (answer w r) i (parts (stepped w r) rs) (sound w r) h in
+    held (stepped w r) rs i (g .1) ∙ g .0
+
+size : (w : Walk) (rs : List Relocation) → length (walk w rs .section) ≡ length (w .section)
+size w [] = refl
+size w (r ∷ rs) = size (stepped w r) rs ∙ sized (w .pass) (w .section) r (answer w r) (sound w r)
+
+-- ---- a chain of windows, each past the one before it, has no two that overlap
+
+low : Part
+low = record { from = 0; to = 0 }
+
+above : (b : ℕ) (xs : List Part) (j : ℕ) → Apart b xs → j < length xs → b ≤ getD xs j low .from
+above b [] j h l = absurd (not-suc-le-zero l)
+above b (x ∷ xs) zero h l = h .0
+above b (x ∷ xs) (suc j) h l = le-trans (h .0) (le-trans (le-of-lt (h .1)) (above (x .to) xs j (h .2) (le-of-suc-le-suc l)))
+
+pairwise : (b : ℕ) (xs : List Part) (i j : ℕ) → Apart b xs → i < j → j < length xs → getD xs i low .to ≤ getD xs j low .from
+pairwise b [] i j h l g = absurd (not-suc-le-zero g)
+pairwise b (x ∷ xs) i zero h l g = absurd (not-suc-le-zero l)
+pairwise b (x ∷ xs) zero (suc j) h l g = above (x .to) xs j (h .2) (le-of-suc-le-suc g)
+pairwise b (x ∷ xs) (suc i) (suc j) h l g = pairwise (x .to) xs i j (h .2) (le-of-suc-le-suc l) (le-of-suc-le-suc g)
+
+pub walks : Walks
+unfolding low
+walks =
+    record {
+      order = order;
+      joined = joined;
+      rising = rising;
+      apart = apart;
+      no-overlap = λ w rs i j l g. pairwise (w .pass .window) (parts w rs) i j (apart w rs) l g;
+      kept = held;
+      size = size;
+    }

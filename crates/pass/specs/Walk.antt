@@ -1,0 +1,98 @@
+-- What a walk over a list of records means: the step, folded, and what holds of every walk from any pass over any section. Assumes nothing.
+use mathlib.Core.Path.{_≡_}
+use mathlib.Core.Logic.{_⊎_}
+use mathlib.Core.Bool.{Bool, true, false, cond}
+use mathlib.Core.List.{List, [], _∷_, _++_, map}
+use Prim.Native.Nat.{ℕ, _<_, _≤_}
+use lib.IntN.{negsuc}
+use lib.ListN.{length, getD}
+use Rattle.rules.specs.Answer.{Answer, gives, refuses}
+use Rattle.rules.specs.Kinds.{shapeOf}
+use Rattle.rules.specs.Rewrite.{unrelaxed, relaxed}
+use Rattle.windows.specs.Windows.{isEmpty, begin, end}
+use Rattle.pass.specs.declared.Pass.{Pass}
+use Rattle.pass.specs.Pass.{Relocation, relocation, Accepted, took, skipped, freshPass, stepping, passAfter, bytesAfter, ending, endedPass}
+
+-- a pass and its section
+pub record Walk : Type 0 where
+  pub pass : Pass
+  pub section : List ℕ
+
+-- a record's answer, and the walk one record further
+abbrev pub answer : Walk → Relocation → Answer Accepted
+answer w r = stepping (w .pass) (w .section) r
+
+abbrev pub after : Walk → ℕ → Answer Accepted → Walk
+after w off a = record { pass = passAfter (w .pass) off a; section = bytesAfter (w .section) a }
+
+abbrev pub stepped : Walk → Relocation → Walk
+stepped w r = after w (r .offset) (answer w r)
+
+-- a whole walk, and the answers on the way
+abbrev pub walk : Walk → List Relocation → Walk
+walk w [] = w
+walk w (r ∷ rs) = walk (stepped w r) rs
+
+abbrev pub answers : Walk → List Relocation → List (Answer Accepted)
+answers w [] = []
+answers w (r ∷ rs) = answer w r ∷ answers (stepped w r) rs
+
+-- ---- what is told of a walk
+
+-- the offsets of the accepted records
+abbrev pub offsetOf : ℕ → Answer Accepted → List ℕ
+offsetOf off (gives a) = off ∷ []
+offsetOf off (refuses n) = []
+
+abbrev pub offsets : Walk → List Relocation → List ℕ
+offsets w [] = []
+offsets w (r ∷ rs) = offsetOf (r .offset) (answer w r) ++ offsets (stepped w r) rs
+
+-- the windows of the relaxed records that aren't empty: from a byte up to another, which isn't included
+pub record Part : Type 0 where
+  pub from : ℕ
+  pub to : ℕ
+
+abbrev pub partOf : ℕ → Answer Accepted → List Part
+partOf off (gives (took (relaxed k t m x))) = cond (isEmpty k) [] (record { from = begin k off; to = end k off } ∷ [])
+partOf off (gives (took unrelaxed)) = []
+partOf off (gives skipped) = []
+partOf off (refuses n) = []
+
+abbrev pub parts : Walk → List Relocation → List Part
+parts w [] = []
+parts w (r ∷ rs) = partOf (r .offset) (answer w r) ++ parts (stepped w r) rs
+
+-- each is at least the one before it, and the first at least `low`
+abbrev pub Rising : ℕ → List ℕ → Type 0
+Rising low [] = Unit {0}
+Rising low (o ∷ os) = (low ≤ o) × Rising o os
+
+-- each holds a byte, and begins at or past the end of the one before it, the first at or past `low`
+abbrev pub Apart : ℕ → List Part → Type 0
+Apart low [] = Unit {0}
+Apart low (x ∷ xs) = (low ≤ x .from) × (x .from < x .to) × Apart (x .to) xs
+
+-- a byte that lies in none
+abbrev pub Outside : ℕ → List Part → Type 0
+Outside i [] = Unit {0}
+Outside i (x ∷ xs) = ((i < x .from) ⊎ (x .to ≤ i)) × Outside i xs
+
+-- ---- what holds of every walk
+
+pub record Walks : Type 0 where
+  -- "the step order, which holds at every record": a record's answer is the step's, from what the records before it left
+  pub order :
+      (w : Walk) (before : List Relocation) (r : Relocation) (rest : List Relocation)
+      → answers w (before ++ r ∷ rest) ≡ answers w before ++ answer (walk w before) r ∷ answers (stepped (walk w before) r) rest
+  pub joined : (w : Walk) (before rest : List Relocation) → walk w (before ++ rest) ≡ walk (walk w before) rest
+  -- offsets never fall
+  pub rising : (w : Walk) (rs : List Relocation) → Rising (w .pass .last) (offsets w rs)
+  -- windows never overlap: none begins before the end of the last one, and so none before the end of any
+  pub apart : (w : Walk) (rs : List Relocation) → Apart (w .pass .window) (parts w rs)
+  pub no-overlap :
+      (w : Walk) (rs : List Relocation) (i j : ℕ) → i < j → j < length (parts w rs)
+      → getD (parts w rs) i (record { from = 0; to = 0 }) .to ≤ getD (parts w rs) j (record { from = 0; to = 0 }) .from
+  -- a byte outside all windows is as it was
+  pub kept : (w : Walk) (rs : List Relocation) (i : ℕ) → Outside i (parts w rs) → getD (walk w rs .section) i 0 ≡ getD (w .section) i 0
+  pub size : (w : Walk) (rs : List Relocation) → length (walk w rs .section) ≡ length (w .section)
