@@ -1,3 +1,4 @@
 pub mod Stepping
 pub mod Steps
 pub mod Walk
+pub mod Worked

@@ -80,9 +80,9 @@ module _ (p : Pass) (off : ℕ) where
   says-choice :
       (sec : List ℕ) (a : ℤ) (c : Choice)
       → Says
-          (checked (choiceOf c) (cond (ltb off (p .last)) (refuses 22) (cond (p .skip) (gives skipped) (apart p off (relaxChosen sec off a (choiceOf c))))))
-          (verdictOf p c (length sec) off)
-          (relaxChosen sec off a (choiceOf c))
+      (checked (choiceOf c) (cond (ltb off (p .last)) (refuses 22) (cond (p .skip) (gives skipped) (apart p off (relaxChosen sec off a (choiceOf c))))))
+      (verdictOf p c (length sec) off)
+      (relaxChosen sec off a (choiceOf c))
   unfolding checked relaxChosen apart passAfter
   says-choice sec a (choice.Refused n) = (refl, refl)
   says-choice sec a choice.Nothing = says-in-order (ltb off (p .last)) (p .skip) (gives (took unrelaxed)) Leave (gives unrelaxed) (refl, refl)

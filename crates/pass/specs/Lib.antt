@@ -1,3 +1,4 @@
 pub mod Pass
 pub mod Answers
 pub mod Walk
+pub mod Worked

@@ -5,6 +5,7 @@ ghost use Rattle.relaxation_kind.specs.Kind.{kindOf};
 ghost use Rattle.windows.specs.Windows.{spanOf};
 ghost use Rattle.pass.specs.Pass.{relocation, freshPass, stepping, passAfter, bytesAfter, ending, endedPass};
 ghost use Rattle.pass.specs.Walk.{Walks};
+ghost use Rattle.pass.specs.Worked.{Worked};
 ghost use Rattle.pass.specs.Answers.{stepOf, endOf, StepKeepsMeaning, placed, inOrder, verdictOf, tookStep, skippedStep, refusedStep};
 use new_relaxation::Choice;
 use relax::Relaxed;
@@ -53,10 +54,12 @@ enum Verdict {
 }
 
 impl Pass {
-    // A pass before its first record. The contract also says what every walk means, from any pass on.
+    // A pass before its first record. The contract also says what holds of every walk, from any pass on,
+    // with a worked one.
     pub fn fresh() -> Pass
         ensures { λ r. ⌜ r ≡ freshPass ⌝ }
         ensures { λ _. ⌜ Walks ⌝ }
+        ensures { λ _. ⌜ Worked ⌝ }
     {
         Pass {
             last: 0,

@@ -1,0 +1,75 @@
+-- A worked walk, in which a step ends in every way that a pass adds, and the endings. Assumes nothing.
+use mathlib.Core.Path.{_≡_}
+use mathlib.Core.Bool.{Bool, true, false}
+use mathlib.Core.List.{List, [], _∷_, map}
+use Prim.Native.Nat.{ℕ}
+use lib.IntN.{negsuc}
+use Rattle.rules.specs.Answer.{Answer, gives, refuses}
+use Rattle.rules.specs.Kinds.{shapeOf}
+use Rattle.rules.specs.Rewrite.{unrelaxed, relaxed}
+use Rattle.pass.specs.declared.Pass.{Pass}
+use Rattle.pass.specs.Pass.{Relocation, relocation, Accepted, took, skipped, freshPass, ending, endedPass}
+use Rattle.pass.specs.Walk.{Walk, walk, answers, parts, Outside}
+
+-- an answer in short: the kind's number, none, skipped, or the refusal
+pub data Told : Type 0 where
+  relaxes : ℕ → Told
+  leaves : Told
+  skips : Told
+  refused : ℕ → Told
+
+abbrev pub told : Answer Accepted → Told
+told (gives (took (relaxed k t m x))) = relaxes (shapeOf k .number)
+told (gives (took unrelaxed)) = leaves
+told (gives skipped) = skips
+told (refuses n) = refused n
+
+-- a general-dynamic sequence with its call, a load through the GOT, and zeros
+abbrev section : List ℕ
+section =
+    0x66 ∷ 0x48 ∷ 0x8D ∷ 0x3D ∷ 0 ∷ 0 ∷ 0 ∷ 0 ∷ 0x66 ∷ 0x66 ∷ 0x48 ∷ 0xE8 ∷ 0 ∷ 0 ∷ 0 ∷ 0 ∷ 0x4C ∷ 0x8B ∷ 0x2D ∷ 0 ∷ 0 ∷ 0 ∷ 0 ∷ []
+
+-- type and offset, executable, non-interposable, static and fixed, at 0x401000
+abbrev at : ℕ → ℕ → Relocation
+at type off = relocation off 1 0 0x401000 (negsuc 3) type true
+
+-- the sequence, and a load that would be relaxed but stands before it; then the call, which is skipped, a load that is relaxed, a
+-- descriptor's call past its window, another that begins inside the last window, one that is cut off there, an empty window inside it, and
+-- a type with no rule
+abbrev pub records : List Relocation
+records =
+    at 19 4
+    ∷ at 42 3
+    ∷ at 4 12
+    ∷ at 42 19
+    ∷ at 35 19
+    ∷ at 35 20
+    ∷ at 4 20
+    ∷ at 1 20
+    ∷ at 35 22
+    ∷ at 1 24
+    ∷ []
+
+abbrev pub start : Walk
+start = record { pass = freshPass; section = section }
+
+abbrev passOf : ℕ → ℕ → Bool → Bool → Pass
+passOf l w s e = record { last = l; window = w; skip = s; ended = e }
+
+pub record Worked : Type 0 where
+  pub told-all :
+      map told (answers start records)
+      ≡ relaxes 10 ∷ refused 22 ∷ skips ∷ relaxes 2 ∷ relaxes 18 ∷ refused 23 ∷ relaxes 9 ∷ leaves ∷ refused 6 ∷ refused 2 ∷ []
+  pub ends-at : walk start records .pass ≡ passOf 20 21 false false
+  pub holds :
+      walk start records .section
+      ≡ 0x64 ∷ 0x48 ∷ 0x8B ∷ 0x04 ∷ 0x25 ∷ 0 ∷ 0 ∷ 0 ∷ 0 ∷ 0x48 ∷ 0x8D ∷ 0x80 ∷ 0 ∷ 0 ∷ 0 ∷ 0 ∷ 0x49 ∷ 0xC7 ∷ 0xC5 ∷ 0x66 ∷ 0x90 ∷ 0 ∷ 0 ∷ []
+  -- byte 15 lies in no window, as the law of bytes asks
+  pub outside : Outside 15 (parts start records)
+  -- after the first record a skip is pending: 24, and nothing changes; after the last the ending is granted; then 21, of both
+  pub pending : ending (passOf 4 12 true false) ≡ refuses 24
+  pub pending-kept : endedPass (passOf 4 12 true false) (refuses 24) ≡ passOf 4 12 true false
+  pub granted : ending (passOf 20 21 false false) ≡ gives tt
+  pub ended : endedPass (passOf 20 21 false false) (gives tt) ≡ passOf 20 21 false true
+  pub over : ending (passOf 20 21 false true) ≡ refuses 21
+  pub over-step : map told (answers (record { pass = passOf 20 21 false true; section = section }) (at 1 20 ∷ [])) ≡ refused 21 ∷ []
