@@ -1,7 +1,7 @@
--- Rules of tests: a negation twice, and `&&` with a known side or a third test.
+-- Rules of tests: a negation twice, and `&&` and `||` with a known side.
 -- Assumes nothing.
 use mathlib.Core.Path.{_≡_, refl}
-use mathlib.Core.Bool.{Bool, true, false, not, _&&_}
+use mathlib.Core.Bool.{Bool, true, false, not, _&&_, _||_, false≢true}
 
 pub not-not : (b : Bool) → not (not b) ≡ b
 not-not true = refl
@@ -18,3 +18,11 @@ and-true false = refl
 pub and-assoc : (a b c : Bool) → (a && (b && c)) ≡ (a && b && c)
 and-assoc true b c = refl
 and-assoc false b c = refl
+
+pub or-false : (b : Bool) → (b || false) ≡ b
+or-false true = refl
+or-false false = refl
+
+pub both : (a b : Bool) → (a && b) ≡ true → (a ≡ true) × (b ≡ true)
+both true b e = (refl, e)
+both false b e = (e, absurd (false≢true e))
