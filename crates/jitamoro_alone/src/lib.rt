@@ -5,7 +5,7 @@ ghost use Rattle.rules.specs.Choose.{choosing};
 ghost use Rattle.rules.specs.Rewrite.{rewriting, afterRewriting};
 ghost use Rattle.relaxation_kind.specs.Kind.{numbered};
 ghost use Rattle.jitamoro_alone.specs.Alone.{chosenNot, relaxationLayout, choiceLayout, movedLayout};
-use new_relaxation::Choice;
+use choice::Choice;
 use relaxation::Relaxation;
 use relaxation_kind::RelaxationKind;
 use rewriting::Applied;

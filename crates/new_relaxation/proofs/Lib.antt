@@ -1,4 +1,2 @@
-pub mod Sequence
-pub mod Tests
 pub mod Types
 pub mod Numbers

@@ -11,7 +11,7 @@ use lib.Dec.{eqb}
 use lib.IntN.{ℤ}
 use Rattle.rules.specs.Choose.{none, given, pick, byType, rexGotpcrelx}
 use Rattle.laws.proofs.Keys.{Away, away}
-use Rattle.new_relaxation.specs.Choices.{instOf}
+use Rattle.new_relaxation.specs.Offsets.{instOf}
 
 -- the arms of the match but the range, from the last on
 abbrev pub keys : List ℕ

@@ -16,10 +16,10 @@ use Rattle.rules.specs.Choose.{gotpcrelx, gotpcrel, gottpoff, code6Gottpoff, tl
 use Rattle.rules.specs.Rewrite.{Rewritten, relaxed, rewrite, rewriting, afterRewriting, relaxChosen, relaxing, afterRelaxing}
 use Rattle.relaxation_kind.specs.Kind.{kindOf}
 use Rattle.rewriting.specs.Apply.{appliedOf}
-use Rattle.new_relaxation.specs.Choices.{choiceOf}
+use Rattle.choice.specs.Choices.{choiceOf}
 use Rattle.relaxation.specs.declared.Relaxation.{Relaxation}
-use Rattle.new_relaxation.specs.declared.Choice.{Choice}
-use Rattle.new_relaxation.specs.declared.Choice.the-variants.{Nothing, Chosen, Refused}
+use Rattle.choice.specs.declared.Choice.{Choice}
+use Rattle.choice.specs.declared.Choice.the-variants.{Nothing, Chosen, Refused}
 use Rattle.relax.specs.Relax.{relaxedOf, finished, then, chosenThen}
 use Rattle.rules.specs.Choose as rules
 

@@ -10,15 +10,15 @@ use Rattle.rules.specs.Choose.{choosing}
 use Rattle.rules.specs.Rewrite.{Rewritten, rewriting}
 use Rattle.rules.specs.Meaning.{covered, Instruction, EndsAlike}
 use Rattle.relaxation_kind.specs.Kind.{kindOf}
-use Rattle.new_relaxation.specs.Choices.{choiceOf}
+use Rattle.choice.specs.Choices.{choiceOf}
 use Rattle.relaxation.specs.declared.Relaxation.{Relaxation}
-use Rattle.new_relaxation.specs.declared.Choice.{Choice}
+use Rattle.choice.specs.declared.Choice.{Choice}
 use Rattle.rewriting.specs.declared.Moved.{Moved}
 use Rattle.rewriting.specs.declared.Applied.{Applied}
 use Rattle.relax.specs.declared.Relaxed.{Relaxed}
 use Rattle.relax.specs.declared.Relaxed.the-variants.{Nothing, Done, Refused}
 use Rattle.rules.specs.Rewrite as rules
-use Rattle.new_relaxation.specs.declared.Choice.the-variants as choice
+use Rattle.choice.specs.declared.Choice.the-variants as choice
 use Rattle.rewriting.specs.declared.Applied.the-variants as applied
 
 -- where the field lies now, and the bytes that the section holds

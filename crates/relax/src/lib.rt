@@ -5,7 +5,7 @@ ghost use Rattle.rules.specs.Rewrite.{rewriting, afterRewriting, relaxing, afte
 ghost use Rattle.relaxation_kind.specs.Kind.{kindOf};
 ghost use Rattle.rewriting.specs.Apply.{appliedOf};
 ghost use Rattle.relax.specs.Relax.{relaxedOf, chosenThen, finished, RelaxingKeepsMeaning, RewritingKeepsMeaning};
-use new_relaxation::Choice;
+use choice::Choice;
 use relaxation::Relaxation;
 use rewriting::Applied;
 use rewriting::Moved;

@@ -7,6 +7,7 @@
 // and the answer: 73 refusal, 74 whether there is more, 75 kind, 76 instruction offset,
 // 77 new type (4), 81 mandatory, 82 skip, 83 needs_got_fallback, 84 new offset (8),
 // 92 new addend (8), 100 section (40). What an answer doesn't have is 0.
+use choice::Choice;
 use elf::RelocationModifier;
 use hex_lines::byte;
 use hex_lines::more;
@@ -14,7 +15,6 @@ use hex_lines::print_count;
 use hex_lines::u32_at;
 use hex_lines::u64_at;
 use libc::STDIN_FILENO;
-use new_relaxation::Choice;
 use relax::Relaxed;
 use relaxation::Relaxation;
 use relaxation_kind::RelaxationKind;

@@ -10,8 +10,9 @@ use Rattle.rules.specs.Answer.{Answer, gives, refuses}
 use Rattle.rules.specs.Kinds.{RelaxationKind, MovIndirectToLea, MovIndirectToAbsolute, RexMovIndirectToAbsolute, RexAddIndirectToAbsolute, RexAddIndirectToLea, RexSubIndirectToAbsolute, RexCmpIndirectToAbsolute, CallIndirectToRelative, JmpIndirectToRelative, NoOp, TlsGdToLocalExec, TlsGdToLocalExecLarge, TlsLdToLocalExec, TlsLdToLocalExecNoPlt, TlsLdToLocalExec64, TlsGdToInitialExec, TlsDescToLocalExec, TlsDescToInitialExec, SkipTlsDescCall, shapeOf, allowed, fits}
 use Rattle.rules.specs.Rewrite.{Rewritten, newOffset, afterRewriting}
 use Rattle.rewriting.specs.declared.Applied.the-variants.{Done, Refused}
-use Rattle.rewriting.specs.Apply.{appliedOf, attemptOf, bytesOf, attempt}
-use Rattle.rewriting.proofs.Window.{within}
+use Rattle.rewriting.specs.Apply.{appliedOf}
+use Rattle.window.specs.Attempts.{attemptOf, bytesOf, attempt}
+use Rattle.window.proofs.Within.{within}
 
 abbrev answer : Bool → Bool → Rewritten → Answer Rewritten
 answer allowed inside r = cond allowed (cond inside (gives r) (refuses 6)) (refuses 5)

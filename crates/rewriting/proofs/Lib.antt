@@ -1,3 +1,1 @@
-pub mod Window
-pub mod Stores
 pub mod Answers

@@ -2,7 +2,7 @@
 -- Assumes nothing.
 use Rattle.relaxation_kind.specs.Kind.{kindOf}
 use Rattle.rewriting.proofs.Answers.{done, refused, starts}
-use Rattle.rewriting.specs.Apply.{attemptedBytes, attempt}
+use Rattle.window.specs.Attempts.{attemptedBytes, attempt}
 use Rattle.rules.specs.Kinds.{allowed, fits}
 use Rattle.rules.specs.Rewrite.{afterRewriting, rewrite, rewriting}
 use borrow.Author.Needs.{needs}

@@ -1,7 +1,7 @@
 -- `rewrite` meets its contract, kind by kind.
 -- Assumes nothing.
 use Prim.Native.Nat.{_+_, _-_, _≤_, zero-le}
-use Rattle.rewriting.specs.Apply.{attemptedBytes, attempt}
+use Rattle.window.specs.Attempts.{attemptedBytes, attempt}
 use borrow.Author.Needs.{needs}
 use borrow.Author.Tests.{le-leb}
 use lib.ListN.{length}

@@ -1,0 +1,15 @@
+-- `rex_mov` meets its contract.
+-- Assumes nothing.
+use Rattle.window.specs.Attempts.{attemptedBytes, attempt}
+use borrow.Author.Needs.{needs}
+use Rattle.operands.proofs.rex_mov.Statement.{statement}
+use Rattle.operands.proofs.rex_mov.Tie as tie
+
+pub rex-mov-spec : {M : Type 1} → statement M
+unfolding attempt attemptedBytes
+rex-mov-spec =
+    tie.close
+    (tie.spec
+    (λ c κs. search needs)
+    (λ c. search needs)
+    (λ c. c .before .before .to-absolute .ensures))

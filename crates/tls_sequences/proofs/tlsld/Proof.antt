@@ -1,0 +1,20 @@
+-- `tlsld` meets its contract.
+-- Assumes nothing.
+use Rattle.rules.specs.Choose.{given, tlsld, ldCall}
+use borrow.Author.Needs.{needs}
+use Rattle.tls_sequences.proofs.tlsld.Statement.{statement}
+use Rattle.tls_sequences.proofs.tlsld.Tie as tie
+
+pub tlsld-spec : {M : Type 1} → statement M
+unfolding ldCall tlsld given
+tlsld-spec =
+    tie.close
+    (tie.spec
+    (λ c κs. search needs)
+    (λ c. search needs)
+    (λ c κs. search needs)
+    (λ c κs. search needs)
+    (λ c κs. search needs)
+    (λ c κs. search needs)
+    (λ c. rw (← c .before .before .before .before .before .before .is-executable .ensures, ← c .before .before .before .before .stands-before .ensures, c .before .before .before .if1 .taken, ← c .before .before .tail .ensures, ← c .before .is-static-executable .ensures) (c .ld-call .ensures))
+    (λ c. simp (← c .before .before .before .is-executable .ensures, ← c .before .stands-before .ensures, c .if1 .left)))
