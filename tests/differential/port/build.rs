@@ -9,5 +9,6 @@ fn main() {
     println!("cargo::rerun-if-env-changed=JITAMORO_LIB_DIR");
     println!("cargo::rerun-if-changed={dir}/libjitamoro.a");
     println!("cargo::rerun-if-changed={dir}/libjitamoro_alone.a");
+    println!("cargo::rerun-if-changed={dir}/libjitamoro_pass.a");
     println!("cargo::rustc-link-search=native={dir}");
 }

@@ -7,6 +7,9 @@ use libwild::oracle::RelocationSize;
 use std::panic;
 use std::panic::AssertUnwindSafe;
 
+pub mod at_random;
+pub mod case_file;
+pub mod pass;
 pub mod relaxation;
 pub mod sequences;
 

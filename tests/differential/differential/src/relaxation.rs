@@ -31,7 +31,7 @@ pub struct Record {
 
 impl Record {
     /// Refusals 1 to 4, or 0.
-    fn refusal(&self, length: usize) -> u8 {
+    pub fn refusal(&self, length: usize) -> u8 {
         let conditions = [
             length > SECTION_LIMIT,
             self.offset > length as u64,
@@ -89,6 +89,7 @@ kinds! { inst_offset:
 
 pub const REX_ADD: u8 = 3;
 pub const REX_ADD_TO_LEA: u8 = 4;
+pub const NO_OP: u8 = 9;
 
 /// The instruction offsets that a kind allows; 0 alone where it has none.
 pub fn inst_offsets(kind: u8) -> &'static [u8] {
@@ -116,7 +117,7 @@ pub fn window(kind: u8, inst_offset: u8) -> (i64, i64) {
         REX_ADD if inst_offset == 6 => (5, 0),
         2..=6 | 16 => (3, 0),
         8 => (2, 4),
-        9 => (0, 0),
+        NO_OP => (0, 0),
         10 | 15 => (4, 8),
         11 | 14 => (3, 19),
         12 => (3, 9),

@@ -66,7 +66,33 @@ pub struct RelaxedAnswer {
     pub addend: i64,
 }
 
-// Not bundled: a library is needed only where one of its functions is called.
+/// `window` is the end of the last window that wasn't empty.
+#[derive(Debug, Default, Clone, Copy, PartialEq, Eq)]
+#[repr(C)]
+pub struct Pass {
+    pub last: u64,
+    pub window: u64,
+    pub skip: bool,
+    pub ended: bool,
+}
+
+/// A refusal stands in `relaxed.choice.refusal`.
+#[derive(Debug, Default, Clone, Copy, PartialEq, Eq)]
+#[repr(C)]
+pub struct StepAnswer {
+    pub pass: Pass,
+    pub skipped: bool,
+    pub relaxed: RelaxedAnswer,
+}
+
+#[derive(Debug, Default, Clone, Copy, PartialEq, Eq)]
+#[repr(C)]
+pub struct EndAnswer {
+    pub pass: Pass,
+    pub refusal: u8,
+}
+
+// Not bundled: the libraries are needed where a program is linked, not where this crate is compiled.
 #[link(name = "jitamoro", kind = "static", modifiers = "-bundle")]
 unsafe extern "C" {
     pub safe fn jitamoro_output_kind(number: u8) -> OutputKindAnswer;
@@ -134,6 +160,28 @@ unsafe extern "C" {
         offset: u64,
         addend: i64,
     ) -> MovedAnswer;
+}
+
+#[link(name = "jitamoro_pass", kind = "static", modifiers = "-bundle")]
+unsafe extern "C" {
+    pub safe fn jitamoro_pass_fresh() -> Pass;
+
+    /// # Safety
+    /// `section` is valid for reads and writes of `len` bytes.
+    pub fn jitamoro_pass_step(
+        pass: Pass,
+        r_type: u32,
+        section: *mut u8,
+        len: usize,
+        offset: u64,
+        flags: u8,
+        output_kind: u8,
+        executable: bool,
+        address: u64,
+        addend: i64,
+    ) -> StepAnswer;
+
+    pub safe fn jitamoro_pass_end(pass: Pass) -> EndAnswer;
 }
 
 pub fn write_plt_entry(plt_entry: &mut [u8], got_address: u64, plt_address: u64) -> u8 {
@@ -206,6 +254,37 @@ pub fn relax(
     // SAFETY: a slice lent by its pointer and length.
     unsafe {
         jitamoro_relax(
+            r_type,
+            start,
+            len,
+            offset,
+            flags,
+            output_kind,
+            executable,
+            address,
+            addend,
+        )
+    }
+}
+
+#[allow(clippy::too_many_arguments)]
+#[inline]
+pub fn pass_step(
+    pass: Pass,
+    r_type: u32,
+    section: &mut [u8],
+    offset: u64,
+    flags: u8,
+    output_kind: u8,
+    executable: bool,
+    address: u64,
+    addend: i64,
+) -> StepAnswer {
+    let (start, len) = (section.as_mut_ptr(), section.len());
+    // SAFETY: a slice lent by its pointer and length.
+    unsafe {
+        jitamoro_pass_step(
+            pass,
             r_type,
             start,
             len,

@@ -4,18 +4,21 @@
 
 use crate::Comparison;
 use crate::GUARD;
+use crate::pass::port_step;
 use crate::relaxing;
 use differential::around;
+use differential::pass;
 use differential::relaxation;
 use differential::relaxation::Record;
 use differential::relaxation::SECTION_LIMIT;
 use differential::sequences::SEQUENCES;
+use port::Pass;
 use std::fmt::Debug;
 use std::ops::Range;
 
 /// Bytes on each side of an offset that are compared after each call.
 const NEAR: usize = 32;
-const FLAGS_AND_KINDS: [(u8, u8); 8] = [
+pub const FLAGS_AND_KINDS: [(u8, u8); 8] = [
     (0, 3),
     (1, 0),
     (1, 4),
@@ -119,6 +122,10 @@ impl Comparison {
         let rust = long.ask(|section| relaxation::relax(record, section));
         self.tally.relaxing.count_choice(&rust.0.choice);
         let port = long.ask(|section| relaxing::port_relax(record, section));
+        self.compare_long(long, port, rust, record);
+        let rust = long.ask(|section| pass::step(Pass::default(), record, section));
+        self.tally.pass.count_step(&rust.0);
+        let port = long.ask(|section| port_step(Pass::default(), record, section));
         self.compare_long(long, port, rust, record);
     }
 

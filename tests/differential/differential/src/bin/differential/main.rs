@@ -3,6 +3,7 @@
 //! A comparison is one input with all of its answer.
 
 mod long_sections;
+mod pass;
 mod random_records;
 mod relaxing;
 mod tally;
@@ -74,7 +75,7 @@ struct Comparison {
 impl Comparison {
     fn run_parts(&mut self) {
         type Part = fn(&mut Comparison);
-        let parts: [(&str, Part); 12] = [
+        let parts: [(&str, Part); 13] = [
             ("lookup", Self::lookup),
             ("contains", Self::contains),
             ("dynamic types", Self::dynamic_types),
@@ -87,6 +88,7 @@ impl Comparison {
             ("relaxing", Self::relaxing),
             ("long sections", Self::long_sections),
             ("records at random", Self::random_records),
+            ("pass", Self::pass),
         ];
         for (name, part) in parts {
             let before = self.count;

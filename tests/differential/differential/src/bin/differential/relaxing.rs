@@ -16,8 +16,8 @@ use port::RelaxedAnswer;
 /// The longest of the short sections.
 pub const SHORT: usize = 48;
 /// Where the offset stands in a section with all places that are looked at: 6 before it, 19 after.
-const OFFSET: usize = 8;
-const WHOLE: usize = OFFSET + 20;
+pub const OFFSET: usize = 8;
+pub const WHOLE: usize = OFFSET + 20;
 
 /// A short section between guard bytes.
 #[derive(Debug, Clone, Copy, PartialEq, Eq)]

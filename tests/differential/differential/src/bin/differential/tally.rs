@@ -1,9 +1,11 @@
-//! How often each answer of choosing, rewriting and relaxing was seen.
+//! How often each answer of choosing, rewriting, relaxing and the pass was seen.
 
 use differential::relaxation;
 use differential::relaxation::KIND_NAMES;
+use differential::relaxation::NO_OP;
 use differential::relaxation::REX_ADD_TO_LEA;
 use port::ChoiceAnswer;
+use port::StepAnswer;
 
 /// The answers of one function.
 #[derive(Default)]
@@ -15,11 +17,24 @@ pub struct Answers {
     kinds: [[u64; 7]; 19],
 }
 
+/// The answers of a pass: of its steps, and of its endings.
+#[derive(Default)]
+pub struct PassAnswers {
+    none: u64,
+    relaxed: u64,
+    relaxed_empty: u64,
+    skipped: u64,
+    ended: u64,
+    /// By refusal.
+    refused: [u64; 25],
+}
+
 #[derive(Default)]
 pub struct Tally {
     pub choosing: Answers,
     pub rewriting: Answers,
     pub relaxing: Answers,
+    pub pass: PassAnswers,
 }
 
 impl Answers {
@@ -41,6 +56,51 @@ impl Answers {
             let place = if has { usize::from(inst_offset) } else { 0 };
             self.kinds[usize::from(kind)][place] += 1;
         }
+    }
+}
+
+impl PassAnswers {
+    pub fn count_step(&mut self, answer: &StepAnswer) {
+        let choice = &answer.relaxed.choice;
+        let count = match (choice.refusal, answer.skipped, choice.chosen) {
+            (0, true, _) => &mut self.skipped,
+            (0, false, false) => &mut self.none,
+            (0, false, true) if choice.kind == NO_OP => &mut self.relaxed_empty,
+            (0, false, true) => &mut self.relaxed,
+            (refusal, _, _) => &mut self.refused[usize::from(refusal)],
+        };
+        *count += 1;
+    }
+
+    pub fn count_end(&mut self, refusal: u8) {
+        match refusal {
+            0 => self.ended += 1,
+            _ => self.refused[usize::from(refusal)] += 1,
+        }
+    }
+
+    /// Prints how often each answer was seen, and says how many never were.
+    fn print(&self) -> usize {
+        println!("{:<28}{:>12}", "", "pass");
+        let named = [
+            ("none", self.none),
+            ("relaxed", self.relaxed),
+            ("relaxed, window empty", self.relaxed_empty),
+            ("skipped", self.skipped),
+            ("ended", self.ended),
+        ];
+        let named = named.map(|(name, count)| (name.to_string(), count));
+        let refused = [1, 2, 3, 4, 6, 21, 22, 23, 24];
+        let refused = refused.map(|it| (format!("refusal {it}"), self.refused[it]));
+        let mut unseen = 0;
+        for (name, count) in named.into_iter().chain(refused) {
+            println!("{name:<28}{count:>12}");
+            if count == 0 {
+                println!("differential: {name} was never seen");
+                unseen += 1;
+            }
+        }
+        unseen
     }
 }
 
@@ -67,7 +127,7 @@ impl Tally {
             let name = format!("refusal {refusal}");
             unseen += self.print_row(&name, |it| it.refused[refusal], given);
         }
-        unseen
+        unseen + self.pass.print()
     }
 
     /// `given` says which of the three functions give this answer.

@@ -1,0 +1,278 @@
+//! The pass: lists of records walked over one section, and single steps from any state. After each
+//! step the answer, the state and the whole section are compared.
+
+use crate::Comparison;
+use crate::GUARD;
+use crate::long_sections::FLAGS_AND_KINDS;
+use crate::relaxing::OFFSET;
+use crate::relaxing::SHORT;
+use crate::relaxing::Section;
+use crate::relaxing::WHOLE;
+use differential::at_random;
+use differential::at_random::Dice;
+use differential::pass;
+use differential::relaxation::Record;
+use differential::sequences::SEQUENCES;
+use differential::sequences::Sequence;
+use port::Pass;
+use port::StepAnswer;
+
+const LISTS: u64 = 500_000;
+const SINGLE_STEPS: u64 = 4_000_000;
+/// The most records of a list, and the most bytes of its section: room for each sequence and a gap.
+const MOST_RECORDS: u64 = 40;
+const LONGEST: usize = MOST_RECORDS as usize * 32;
+
+pub fn port_step(pass: Pass, record: &Record, section: &mut [u8]) -> StepAnswer {
+    port::pass_step(
+        pass,
+        record.r_type,
+        section,
+        record.offset,
+        record.flags,
+        record.output_kind,
+        record.executable,
+        record.address,
+        record.addend,
+    )
+}
+
+/// A walk over a list: its state, and the section between guard bytes.
+#[derive(Clone)]
+struct Walk {
+    pass: Pass,
+    bytes: Vec<u8>,
+    length: usize,
+}
+
+impl Walk {
+    fn lent(&self) -> &[u8] {
+        &self.bytes[GUARD..GUARD + self.length]
+    }
+
+    fn lent_mut(&mut self) -> &mut [u8] {
+        &mut self.bytes[GUARD..GUARD + self.length]
+    }
+}
+
+// One step or ending.
+impl Comparison {
+    /// Steps on both sides, each from its own state.
+    fn step_both(&mut self, port: &mut Walk, rust: &mut Walk, record: &Record) {
+        let before = rust.clone();
+        let expected = pass::step(rust.pass, record, rust.lent_mut());
+        rust.pass = expected.pass;
+        self.tally.pass.count_step(&expected);
+        if !expected.relaxed.choice.chosen {
+            assert_eq!(rust.bytes, before.bytes, "the Rust writes nothing");
+        }
+        let answer = port_step(port.pass, record, port.lent_mut());
+        port.pass = answer.pass;
+        self.compare((answer, &port.bytes), (expected, &rust.bytes), || {
+            format!(
+                "step, {:x?}, {record:x?}, {:x?}",
+                before.pass,
+                before.lent()
+            )
+        });
+    }
+
+    fn end_both(&mut self, port: &mut Pass, rust: &mut Pass) {
+        let before = *rust;
+        let expected = pass::end(before);
+        *rust = expected.pass;
+        self.tally.pass.count_end(expected.refusal);
+        let answer = port::jitamoro_pass_end(*port);
+        *port = answer.pass;
+        self.compare(answer, expected, || format!("ending, {before:x?}"));
+    }
+}
+
+// Lists.
+impl Comparison {
+    pub fn pass(&mut self) {
+        for _ in 0..LISTS {
+            let (records, start) = self.random_list();
+            self.walk(&records, start);
+        }
+        for sequence in &SEQUENCES {
+            self.every_state(sequence);
+        }
+        for _ in 0..SINGLE_STEPS {
+            self.random_step();
+        }
+    }
+
+    /// Asks for the end after some records and after the last, and steps on.
+    fn walk(&mut self, records: &[Record], start: Walk) {
+        let differences = self.differences;
+        let (mut port, mut rust) = (start.clone(), start);
+        port.pass = port::jitamoro_pass_fresh();
+        self.compare(port.pass, rust.pass, || "a fresh pass".to_string());
+        for record in records {
+            self.step_both(&mut port, &mut rust, record);
+            let mut dice = Dice::new(&mut self.random);
+            if dice.one_in(24) {
+                self.end_both(&mut port.pass, &mut rust.pass);
+            }
+            // A walk that differs once goes on differing; one that is ended is soon left.
+            if self.differences != differences || rust.pass.ended && dice.one_in(3) {
+                return;
+            }
+        }
+        self.end_both(&mut port.pass, &mut rust.pass);
+        self.step_both(&mut port, &mut rust, records.last().unwrap());
+        self.end_both(&mut port.pass, &mut rust.pass);
+    }
+
+    /// Sequences one after the other, some overlapping; some records stand elsewhere.
+    fn random_list(&mut self) -> (Vec<Record>, Walk) {
+        let mut records: Vec<Record> = Vec::new();
+        let mut bytes = vec![0; GUARD + LONGEST + GUARD];
+        self.random.fill(&mut bytes);
+        let mut end = 0;
+        for _ in 0..=self.random.word() % MOST_RECORDS {
+            let mut dice = Dice::new(&mut self.random);
+            let mut record = match records.last() {
+                Some(last) if dice.one_in(5) => elsewhere(last, &mut dice),
+                _ => self.next_record(&mut bytes[GUARD..GUARD + LONGEST], &mut end),
+            };
+            at_random::numbers(&mut self.random, &mut record);
+            records.push(record);
+        }
+        let mut dice = Dice::new(&mut self.random);
+        let length = if dice.one_in(2) {
+            end.saturating_sub(dice.roll(16) as usize)
+        } else {
+            end + dice.roll(8) as usize
+        };
+        let pass = Pass::default();
+        (
+            records,
+            Walk {
+                pass,
+                bytes,
+                length,
+            },
+        )
+    }
+
+    /// Writes a sequence where the last one ended, or before; `end` is then this one's end.
+    fn next_record(&mut self, section: &mut [u8], end: &mut usize) -> Record {
+        let mut dice = Dice::new(&mut self.random);
+        let sequence = &SEQUENCES[dice.roll(SEQUENCES.len() as u64) as usize];
+        let begin = match dice.roll(8) {
+            0..3 => end.saturating_sub(dice.roll(16) as usize),
+            3..5 => *end + dice.roll(5) as usize,
+            _ => *end,
+        };
+        // At the section's start it may be cut.
+        let cut = if begin == 0 { dice.roll(8) as usize } else { 0 };
+        let offset = (begin + sequence.before.len()).saturating_sub(cut);
+        sequence.write(section, offset);
+        if dice.one_in(16) {
+            at_random::change(section, offset, &mut dice);
+        }
+        *end = (offset + sequence.after.len()).max(*end);
+        sequence.record(offset)
+    }
+}
+
+/// At the last record's offset, near it or below it: of a type that is relaxed again where another
+/// was rewritten, or that looks at no byte, or of any.
+fn elsewhere(last: &Record, dice: &mut Dice) -> Record {
+    let sequence = &SEQUENCES[dice.roll(SEQUENCES.len() as u64) as usize];
+    let mut record = sequence.record(0);
+    record.r_type = match dice.roll(3) {
+        0 => 35,
+        1 => [9, 22, 34, 42][dice.roll(4) as usize],
+        _ => record.r_type,
+    };
+    record.offset = match dice.roll(8) {
+        0..4 => last.offset,
+        4..6 => last.offset.wrapping_add(dice.roll(16)),
+        6 => last.offset.saturating_sub(dice.roll(8)),
+        _ => last.offset.saturating_sub(dice.roll(256)),
+    };
+    record
+}
+
+// Single steps.
+impl Comparison {
+    /// A step and an ending from a state that a walk need not reach.
+    fn single_step(&mut self, pass: Pass, record: &Record, section: &Section) {
+        let mut port = Walk {
+            pass,
+            bytes: section.bytes.to_vec(),
+            length: section.length,
+        };
+        let mut rust = port.clone();
+        self.step_both(&mut port, &mut rust, record);
+        let (mut port, mut rust) = (pass, pass);
+        self.end_both(&mut port, &mut rust);
+    }
+
+    /// Every state about the offset, with the section cut at every place after it.
+    fn every_state(&mut self, sequence: &Sequence) {
+        for length in OFFSET - 1..=WHOLE {
+            let (mut record, section) = self.record_of(sequence, OFFSET, length);
+            for (flags, output_kind) in FLAGS_AND_KINDS {
+                record.flags = flags;
+                record.output_kind = output_kind;
+                for pass in states() {
+                    self.single_step(pass, &record, &section);
+                }
+            }
+        }
+    }
+
+    fn random_step(&mut self) {
+        let (record, mut section) = self.random_record();
+        let pass = self.random_pass(record.offset);
+        let mut dice = Dice::new(&mut self.random);
+        if dice.one_in(16) {
+            let end = record.offset.wrapping_add(dice.roll(20));
+            section.length = end.min(SHORT as u64) as usize;
+        }
+        self.single_step(pass, &record, &section);
+    }
+
+    /// Mostly a state whose numbers lie about the offset.
+    fn random_pass(&mut self, offset: u64) -> Pass {
+        let mut dice = Dice::new(&mut self.random);
+        let last = match dice.roll(8) {
+            0 => self.random.word(),
+            1 => self.random.signed(64) as u64,
+            2..4 => offset.wrapping_add(dice.roll(3)).wrapping_sub(1),
+            _ => dice.roll(8),
+        };
+        let window = match dice.roll(8) {
+            0 => self.random.word(),
+            1 => self.random.signed(64) as u64,
+            2 => u64::MAX,
+            3..6 => offset.wrapping_add(dice.roll(12)).wrapping_sub(8),
+            _ => dice.roll(8),
+        };
+        Pass {
+            last,
+            window,
+            skip: dice.one_in(4),
+            ended: dice.one_in(8),
+        }
+    }
+}
+
+/// The states whose numbers lie about the offset.
+fn states() -> impl Iterator<Item = Pass> {
+    let offset = OFFSET as u64;
+    let places =
+        (offset - 1..=offset + 1).flat_map(move |last| (0..offset + 3).map(move |it| (last, it)));
+    places.flat_map(|(last, window)| {
+        [(false, false), (false, true), (true, false), (true, true)].map(|(skip, ended)| Pass {
+            last,
+            window,
+            skip,
+            ended,
+        })
+    })
+}

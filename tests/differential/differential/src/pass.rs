@@ -1,0 +1,150 @@
+//! Document 01's pass over wild's choosing, rewriting and modifier, answering as the port does.
+
+use crate::relaxation;
+use crate::relaxation::REX_ADD;
+use crate::relaxation::Record;
+use port::ChoiceAnswer;
+use port::EndAnswer;
+use port::Pass;
+use port::RelaxedAnswer;
+use port::StepAnswer;
+
+/// Where each kind's window begins and ends, from the offset, in the order of the kinds.
+const WINDOWS: [(i64, i64); 19] = [
+    (-2, -1), // MovIndirectToLea
+    (-2, 0),  // MovIndirectToAbsolute
+    (-3, 0),  // RexMovIndirectToAbsolute
+    (-3, 0),  // RexAddIndirectToAbsolute
+    (-3, 0),  // RexAddIndirectToLea
+    (-3, 0),  // RexSubIndirectToAbsolute
+    (-3, 0),  // RexCmpIndirectToAbsolute
+    (-2, 0),  // CallIndirectToRelative
+    (-2, 4),  // JmpIndirectToRelative
+    (0, 0),   // NoOp
+    (-4, 8),  // TlsGdToLocalExec
+    (-3, 19), // TlsGdToLocalExecLarge
+    (-3, 9),  // TlsLdToLocalExec
+    (-3, 10), // TlsLdToLocalExecNoPlt
+    (-3, 19), // TlsLdToLocalExec64
+    (-4, 8),  // TlsGdToInitialExec
+    (-3, 0),  // TlsDescToLocalExec
+    (-2, -1), // TlsDescToInitialExec
+    (0, 2),   // SkipTlsDescCall
+];
+const REX_ADD_WITH_6: (i64, i64) = (-5, 0);
+
+/// One record. The section isn't copied but where the windows overlap.
+pub fn step(pass: Pass, record: &Record, section: &mut [u8]) -> StepAnswer {
+    let refusal = refusal_before_skip(&pass, record, section.len());
+    if refusal != 0 {
+        return refused(pass, refusal);
+    }
+    let mut next = Pass {
+        last: record.offset,
+        ..pass
+    };
+    if pass.skip {
+        next.skip = false;
+        return StepAnswer {
+            pass: next,
+            skipped: true,
+            ..Default::default()
+        };
+    }
+    let window = window(record.offset, &relaxation::choose(record, section));
+    if window.is_some_and(|(begin, _)| begin < i128::from(pass.window)) {
+        // The bytes are thrown away: wild only says whether it panics.
+        let relaxed = relaxation::relax(record, &mut section.to_vec());
+        let inside = relaxed.choice.refusal == 0;
+        return refused(pass, if inside { 23 } else { 6 });
+    }
+    let relaxed = relaxation::relax(record, section);
+    if relaxed.choice.refusal != 0 {
+        return refused(pass, relaxed.choice.refusal);
+    }
+    if let Some((_, end)) = window {
+        next.window = u64::try_from(end).unwrap();
+    }
+    next.skip = relaxed.choice.skip_next;
+    StepAnswer {
+        pass: next,
+        skipped: false,
+        relaxed,
+    }
+}
+
+pub fn end(pass: Pass) -> EndAnswer {
+    let refusal = match pass {
+        Pass { ended: true, .. } => 21,
+        Pass { skip: true, .. } => 24,
+        _ => 0,
+    };
+    let ended = pass.ended || refusal == 0;
+    EndAnswer {
+        pass: Pass { ended, ..pass },
+        refusal,
+    }
+}
+
+/// Refusals 21, 1 to 4 and 22, or 0.
+fn refusal_before_skip(pass: &Pass, record: &Record, length: usize) -> u8 {
+    if pass.ended {
+        return 21;
+    }
+    match record.refusal(length) {
+        0 if record.offset < pass.last => 22,
+        refusal => refusal,
+    }
+}
+
+fn refused(pass: Pass, refusal: u8) -> StepAnswer {
+    let choice = ChoiceAnswer {
+        refusal,
+        ..Default::default()
+    };
+    StepAnswer {
+        pass,
+        skipped: false,
+        relaxed: RelaxedAnswer {
+            choice,
+            ..Default::default()
+        },
+    }
+}
+
+/// The window in the section; none where nothing is chosen or the window is empty.
+fn window(offset: u64, choice: &ChoiceAnswer) -> Option<(i128, i128)> {
+    let (begin, end) = match choice {
+        ChoiceAnswer { chosen: false, .. } => return None,
+        ChoiceAnswer {
+            kind: REX_ADD,
+            inst_offset: 6,
+            ..
+        } => REX_ADD_WITH_6,
+        choice => WINDOWS[usize::from(choice.kind)],
+    };
+    let from_offset = |place| i128::from(offset) + i128::from(place);
+    (begin < end).then(|| (from_offset(begin), from_offset(end)))
+}
+
+#[cfg(test)]
+mod tests {
+    use super::*;
+
+    #[test]
+    fn windows_are_those_of_rewriting() {
+        for kind in 0..19 {
+            for &inst_offset in relaxation::inst_offsets(kind) {
+                let choice = ChoiceAnswer {
+                    chosen: true,
+                    kind,
+                    inst_offset,
+                    ..Default::default()
+                };
+                let (before, after) = relaxation::window(kind, inst_offset);
+                let both = (8 - i128::from(before), 8 + i128::from(after));
+                assert_eq!(window(8, &choice), (both.0 < both.1).then_some(both));
+            }
+        }
+    }
+}
