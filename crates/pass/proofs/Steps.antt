@@ -14,11 +14,11 @@ use Rattle.rules.specs.Rewrite.{Rewritten, Relaxed, unrelaxed, relaxed, rewrite
 use Rattle.rules.proofs.Theorem.{same-meaning}
 use Rattle.relaxation_kind.specs.Kind.{kindOf}
 use Rattle.relaxation.specs.declared.Relaxation.{Relaxation}
-use Rattle.new_relaxation.specs.declared.Choice.{Choice}
-use Rattle.new_relaxation.specs.Choices.{choiceOf}
+use Rattle.choice.specs.declared.Choice.{Choice}
+use Rattle.choice.specs.Choices.{choiceOf}
 use Rattle.relax.specs.Relax.{relaxedOf, rewrittenTo}
-use Rattle.windows.specs.Windows.{isEmpty, begin, end}
-use Rattle.windows.specs.declared.Span.the-variants.{Outside, Empty, Between}
+use Rattle.spans.specs.Windows.{isEmpty, begin, end}
+use Rattle.spans.specs.declared.Span.the-variants.{Outside, Empty, Between}
 use Rattle.pass.specs.declared.Pass.{Pass}
 use Rattle.pass.specs.declared.Step.{Step}
 use Rattle.pass.specs.declared.Stepped.{Stepped}
@@ -27,7 +27,7 @@ use Rattle.pass.specs.declared.Verdict.the-variants.{Refuse, Skip, Leave
 use Rattle.pass.specs.Pass.{Relocation, choosingOf, relaxingOf, Accepted, took, skipped, checked, apart, stepping, passAfter, bytesAfter}
 use Rattle.pass.specs.Answers.{stepOf, StepKeepsMeaning, placed, inOrder, verdictOf, tookStep, skippedStep, refusedStep}
 use Rattle.pass.proofs.Stepping.{step-relaxes}
-use Rattle.new_relaxation.specs.declared.Choice.the-variants as choice
+use Rattle.choice.specs.declared.Choice.the-variants as choice
 use Rattle.relax.specs.declared.Relaxed as relax
 use Rattle.relax.specs.declared.Relaxed.the-variants as answer
 

@@ -13,8 +13,8 @@ use borrow.Author.Tests.{ltb-true, ltb-false, leb-true, eqb-true, eqb-false}
 use Rattle.rules.specs.Answer.{Answer, gives, refuses}
 use Rattle.rules.specs.Kinds.{RelaxationKind, shapeOf, fits}
 use Rattle.rules.specs.Rewrite.{Rewritten, unrelaxed, relaxed, rewritten, afterRelaxing}
-use Rattle.windows.specs.Windows.{isEmpty, begin, end}
-use Rattle.windows.proofs.Kept.{Kept, kept}
+use Rattle.spans.specs.Windows.{isEmpty, begin, end}
+use Rattle.spans.proofs.Kept.{Kept, kept}
 use Rattle.pass.specs.declared.Pass.{Pass}
 use Rattle.pass.specs.Pass.{Relocation, relaxingOf, Accepted, took, skipped, overlaps, stepping, passAfter, bytesAfter}
 use Rattle.pass.specs.Walk.{Walk, answer, after, stepped, walk, answers, offsetOf, offsets, Part, partOf, parts, Rising, Apart, Outside, Walks}

@@ -10,11 +10,11 @@ use Rattle.rules.specs.Meaning.{covered, Instruction, EndsAlike}
 use Rattle.relaxation_kind.specs.Kind.{kindOf}
 use Rattle.relaxation.specs.declared.Relaxation.{Relaxation}
 use Rattle.rewriting.specs.declared.Moved.{Moved}
-use Rattle.new_relaxation.specs.declared.Choice.{Choice}
+use Rattle.choice.specs.declared.Choice.{Choice}
 use Rattle.relax.specs.declared.Relaxed.{Relaxed}
 use Rattle.relax.specs.Relax.{relaxedOf, rewrittenTo}
-use Rattle.windows.specs.declared.Span.{Span}
-use Rattle.windows.specs.Windows.{spanOf}
+use Rattle.spans.specs.declared.Span.{Span}
+use Rattle.spans.specs.Windows.{spanOf}
 use Rattle.pass.specs.Pass.{Accepted, took, skipped}
 use Rattle.pass.specs.declared.Pass.{Pass}
 use Rattle.pass.specs.declared.Step.{Step}
@@ -24,9 +24,9 @@ use Rattle.pass.specs.declared.Verdict.{Verdict}
 use Rattle.pass.specs.declared.Step.the-variants.{Nothing, Done, Skipped, Refused}
 use Rattle.pass.specs.declared.Verdict.the-variants.{Refuse, Skip, Leave, Relax}
 use Rattle.rules.specs.Rewrite as rules
-use Rattle.new_relaxation.specs.declared.Choice.the-variants as choice
+use Rattle.choice.specs.declared.Choice.the-variants as choice
 use Rattle.relax.specs.declared.Relaxed.the-variants as relaxed
-use Rattle.windows.specs.declared.Span.the-variants as span
+use Rattle.spans.specs.declared.Span.the-variants as span
 use Rattle.pass.specs.declared.End.the-variants as end
 
 -- a step's answer, with the section as it is then

@@ -8,7 +8,7 @@ use Rattle.rules.specs.Answer.{Answer, gives, refuses}
 use Rattle.rules.specs.Kinds.{RelaxationKind, skips}
 use Rattle.rules.specs.Choose.{Choice, choosing}
 use Rattle.rules.specs.Rewrite.{Relaxed, unrelaxed, relaxed, relaxing, afterRelaxing}
-use Rattle.windows.specs.Windows.{isEmpty, begin, end}
+use Rattle.spans.specs.Windows.{isEmpty, begin, end}
 use Rattle.pass.specs.declared.Pass.{Pass}
 
 -- "A record has a type number .., an offset, a flag number .., an output kind, an executable yes/no, a symbol address .. and a signed addend"

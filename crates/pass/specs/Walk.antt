@@ -9,7 +9,7 @@ use lib.ListN.{length, getD}
 use Rattle.rules.specs.Answer.{Answer, gives, refuses}
 use Rattle.rules.specs.Kinds.{shapeOf}
 use Rattle.rules.specs.Rewrite.{unrelaxed, relaxed}
-use Rattle.windows.specs.Windows.{isEmpty, begin, end}
+use Rattle.spans.specs.Windows.{isEmpty, begin, end}
 use Rattle.pass.specs.declared.Pass.{Pass}
 use Rattle.pass.specs.Pass.{Relocation, relocation, Accepted, took, skipped, freshPass, stepping, passAfter, bytesAfter, ending, endedPass}
 

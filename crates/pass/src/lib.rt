@@ -2,17 +2,17 @@
 // relaxing one record only what they promise. A refusal hands the pass and the section back unchanged.
 ghost use mathlib.Core.Path.{_≡_};
 ghost use Rattle.relaxation_kind.specs.Kind.{kindOf};
-ghost use Rattle.windows.specs.Windows.{spanOf};
+ghost use Rattle.spans.specs.Windows.{spanOf};
 ghost use Rattle.pass.specs.Pass.{relocation, freshPass, stepping, passAfter, bytesAfter, ending, endedPass};
 ghost use Rattle.pass.specs.Walk.{Walks};
 ghost use Rattle.pass.specs.Worked.{Worked};
 ghost use Rattle.pass.specs.Answers.{stepOf, endOf, StepKeepsMeaning, placed, inOrder, verdictOf, tookStep, skippedStep, refusedStep};
-use new_relaxation::Choice;
+use choice::Choice;
 use relax::Relaxed;
 use relaxation::Relaxation;
 use relaxation_kind::RelaxationKind;
 use rewriting::Moved;
-use windows::Span;
+use spans::Span;
 
 // The last offset, the end of the last window that isn't empty, whether a skip is pending, and
 // whether the pass has ended.
@@ -154,7 +154,7 @@ impl Pass {
             Choice::Nothing => self.in_order(offset, Verdict::Leave),
             Choice::Chosen(relaxation) => {
                 let kind = relaxation.kind;
-                let span = windows::span_of(kind, len, offset);
+                let span = spans::span_of(kind, len, offset);
                 self.in_order(offset, self.place(span))
             }
         }

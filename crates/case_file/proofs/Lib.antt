@@ -1,0 +1,5 @@
+pub mod Puts
+pub mod Numbers
+pub mod Decimals
+pub mod Signs
+pub mod Lines
