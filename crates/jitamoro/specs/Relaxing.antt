@@ -6,12 +6,18 @@ use lib.IntN.{pos}
 use Rattle.rules.specs.Answer.{Answer, gives, refuses}
 use Rattle.rules.specs.Rewrite.{Relaxed, unrelaxed, relaxed}
 use Rattle.rules.specs.Meaning.{covered, Instruction, EndsAlike}
-use Rattle.jitamoro_alone.specs.Alone.{chosenNot, kindLayout}
+use Rattle.relaxation.specs.declared.Relaxation.{Relaxation}
+use Rattle.rewriting.specs.declared.Moved.{Moved}
+use Rattle.jitamoro_alone.specs.Alone.{chosenNot, kindLayout, relaxationLayout}
 use Rattle.jitamoro.specs.declared.RelaxedAnswer.{RelaxedAnswer}
 
 -- none (0), or a refusal
 abbrev pub relaxedNot : ℕ → RelaxedAnswer
 relaxedNot n = record { choice = chosenNot n; offset = 0; addend = pos 0 }
+
+-- the code's own choice, carried out
+abbrev pub doneLayout : Relaxation → Moved → RelaxedAnswer
+doneLayout x m = record { choice = relaxationLayout x; offset = m .offset; addend = m .addend }
 
 abbrev pub relaxedLayout : Answer Relaxed → RelaxedAnswer
 relaxedLayout (gives unrelaxed) = relaxedNot 0

@@ -10,7 +10,7 @@ ghost use Rattle.rules.specs.Types.{lookup, dynamicType};
 ghost use Rattle.rules.specs.Plt.{pltAnswer, pltBytes, padding};
 ghost use Rattle.rules.specs.Rewrite.{relaxing, afterRelaxing};
 ghost use Rattle.jitamoro.specs.Layout.{outputLayout, flagsLayout, relocationLayout, infoLayout, refusalNumber};
-ghost use Rattle.jitamoro.specs.Relaxing.{relaxedNot, relaxedLayout, KeepsMeaning};
+ghost use Rattle.jitamoro.specs.Relaxing.{relaxedNot, doneLayout, relaxedLayout, KeepsMeaning};
 use elf::AllowedRange;
 use elf::DynamicRelocationKind;
 use elf::RelocationKindInfo;
@@ -19,6 +19,8 @@ use jitamoro_alone::ChoiceAnswer;
 use output_kind::OutputKind;
 use output_kind::OutputKindFound;
 use relax::Relaxed;
+use relaxation::Relaxation;
+use rewriting::Moved;
 use value_flags::ValueFlags;
 use value_flags::ValueFlagsFound;
 use x86_64::RelocationFound;
@@ -249,16 +251,24 @@ pub extern "C" fn jitamoro_relax(
         addend,
     ) {
         Relaxed::Nothing => not_relaxed(0),
-        Relaxed::Done(relaxation, moved) => RelaxedAnswer {
-            choice: jitamoro_alone::choice_answer(relaxation),
-            offset: moved.offset,
-            addend: moved.addend,
-        },
+        Relaxed::Done(relaxation, moved) => relaxed_answer(relaxation, moved),
         Relaxed::Refused(n) => not_relaxed(n),
     }
 }
 
-fn not_relaxed(refusal: u8) -> RelaxedAnswer
+// What was chosen and carried out.
+pub fn relaxed_answer(relaxation: Relaxation, moved: Moved) -> RelaxedAnswer
+    ensures { λ r. ⌜ r ≡ doneLayout relaxation moved ⌝ }
+{
+    RelaxedAnswer {
+        choice: jitamoro_alone::choice_answer(relaxation),
+        offset: moved.offset,
+        addend: moved.addend,
+    }
+}
+
+// None, or a refusal.
+pub fn not_relaxed(refusal: u8) -> RelaxedAnswer
     ensures { λ r. ⌜ r ≡ relaxedNot refusal ⌝ }
 {
     RelaxedAnswer {

@@ -1,8 +1,6 @@
 // The pass above one record: it walks a section's records by value, and sees of choosing and of
 // relaxing one record only what they promise. A refusal hands the pass and the section back unchanged.
 ghost use mathlib.Core.Path.{_≡_};
-ghost use Rattle.relaxation_kind.specs.Kind.{kindOf};
-ghost use Rattle.spans.specs.Windows.{spanOf};
 ghost use Rattle.pass.specs.Pass.{relocation, freshPass, stepping, passAfter, bytesAfter, ending, endedPass};
 ghost use Rattle.pass.specs.Walk.{Walks};
 ghost use Rattle.pass.specs.Worked.{Worked};
@@ -10,12 +8,12 @@ ghost use Rattle.pass.specs.Answers.{stepOf, endOf, StepKeepsMeaning, pl
 use choice::Choice;
 use relax::Relaxed;
 use relaxation::Relaxation;
-use relaxation_kind::RelaxationKind;
 use rewriting::Moved;
 use spans::Span;
 
 // The last offset, the end of the last window that isn't empty, whether a skip is pending, and
 // whether the pass has ended.
+#[repr(C)]
 pub struct Pass {
     pub last: u64,
     pub window: u64,

@@ -1,8 +1,8 @@
 -- `jitamoro_relax` meets its contract, answer by answer.
 -- Assumes nothing.
+use borrow.Author.Needs.{needs}
 use mir.Facts.{toZ-ofZ}
 use mir.Syntax.{w64}
-use borrow.Author.Needs.{needs, sfits-of}
 use Rattle.jitamoro.proofs.jitamoro_relax.Statement.{statement}
 use Rattle.jitamoro.proofs.jitamoro_relax.Tie as tie
 
@@ -20,6 +20,6 @@ jitamoro-relax-spec =
     (λ c. search needs)
     (λ c. let e = rw (toZ-ofZ {w = w64} (c .before .before .before .before .before .before .before .before .fits .addend)) at (c .before .before .before .before .before .relax .ensures) in (rw (← e .0, c .before .enum-told .given .1) (c .not-relaxed .ensures), (e .1 .0, record { alike = λ h i t. absurd (rw (c .not-relaxed .ensures) at t) })))
     (λ c. search needs)
-    (λ c. let e = rw (toZ-ofZ {w = w64} (c .before .before .before .before .before .before .before .before .before .before .fits .addend)) at (c .before .before .before .before .before .before .before .relax .ensures) in (rw (← e .0, c .before .before .before .relaxation .given .1, c .before .choice-answer .ensures, toZ-ofZ {w = w64} {z = c .before .before .before .relaxation .given .0 .1 .0 .addend} (sfits-of {w = w64} (c .struct-told .given .1 .0 .1))), (e .1 .0, record { alike = λ h i t. rw (c .before .choice-answer .ensures, toZ-ofZ {w = w64} {z = c .before .before .before .relaxation .given .0 .1 .0 .addend} (sfits-of {w = w64} (c .struct-told .given .1 .0 .1))) (e .1 .1 .alike h i _ _ (c .before .before .before .relaxation .given .1)) })))
+    (λ c. let e = rw (toZ-ofZ {w = w64} (c .before .before .before .before .before .before .before .before .before .fits .addend)) at (c .before .before .before .before .before .before .relax .ensures) in (rw (← e .0, c .before .before .relaxation .given .1) (c .relaxed-answer .ensures), (e .1 .0, record { alike = λ h i t. rw (c .relaxed-answer .ensures) (e .1 .1 .alike h i _ _ (c .before .before .relaxation .given .1)) })))
     (λ c. search needs)
     (λ c. let e = rw (toZ-ofZ {w = w64} (c .before .before .before .before .before .before .before .before .before .fits .addend)) at (c .before .before .before .before .before .before .relax .ensures) in (rw (← e .0, c .before .before .n .given .1) (c .not-relaxed2 .ensures), (e .1 .0, record { alike = λ h i t. absurd (rw (c .not-relaxed2 .ensures) at t) }))))
