@@ -13,7 +13,7 @@ use Rattle.rules.specs.Kinds.{RelaxationKind, fits}
 use Rattle.rules.specs.Choose.{Choice, none, chosen}
 use Rattle.rules.specs.Rewrite.{Rewritten, Relaxed, unrelaxed, relaxed, rewrite, relaxChosen, relaxing}
 use Rattle.pass.specs.declared.Pass.{Pass}
-use Rattle.pass.specs.Pass.{Relocation, choosingOf, relaxingOf, Accepted, took, skipped, overlaps, checked, apart, stepping}
+use Rattle.pass.specs.Pass.{Relocation, choosingOf, relaxingOf, Accepted, took, skipped, overlaps, checked, clearing, stepping}
 
 -- ---- relaxing one record: the window lies inside, and the bytes are rewriting's
 
@@ -66,11 +66,11 @@ module _ (p : Pass) (sec : List ℕ) (r : Relocation) where
   clear k t m x true o h e = tt
   clear k t m x false o h e = (h, (e, o))
 
-  by-apart : (a : Answer Relaxed) → relaxingOf sec r ≡ a → ltb (r .offset) (p .last) ≡ false → Sound (apart p (r .offset) a)
-  unfolding apart
-  by-apart (refuses n) e h = tt
-  by-apart (gives unrelaxed) e h = h
-  by-apart (gives (relaxed k t m x)) e h = clear k t m x (overlaps p k (r .offset)) refl h e
+  by-clearing : (a : Answer Relaxed) → relaxingOf sec r ≡ a → ltb (r .offset) (p .last) ≡ false → Sound (clearing p (r .offset) a)
+  unfolding clearing
+  by-clearing (refuses n) e h = tt
+  by-clearing (gives unrelaxed) e h = h
+  by-clearing (gives (relaxed k t m x)) e h = clear k t m x (overlaps p k (r .offset)) refl h e
 
   pub step-sound : Sound (stepping p sec r)
   unfolding stepping
@@ -78,7 +78,7 @@ module _ (p : Pass) (sec : List ℕ) (r : Relocation) where
       test (p .ended) 21 _
       (λ _. by-checked (choosingOf sec r) _
       (test (ltb (r .offset) (p .last)) 22 _
-      (λ h. by-skip (p .skip) _ h (by-apart (relaxingOf sec r) refl h))))
+      (λ h. by-skip (p .skip) _ h (by-clearing (relaxingOf sec r) refl h))))
 
   -- a relaxed record, as relaxing one record has it
   pub step-relaxes :

@@ -24,7 +24,7 @@ use Rattle.pass.specs.declared.Step.{Step}
 use Rattle.pass.specs.declared.Stepped.{Stepped}
 use Rattle.pass.specs.declared.Verdict.{Verdict}
 use Rattle.pass.specs.declared.Verdict.the-variants.{Refuse, Skip, Leave, Relax}
-use Rattle.pass.specs.Pass.{Relocation, choosingOf, relaxingOf, Accepted, took, skipped, checked, apart, stepping, passAfter, bytesAfter}
+use Rattle.pass.specs.Pass.{Relocation, choosingOf, relaxingOf, Accepted, took, skipped, checked, clearing, stepping, passAfter, bytesAfter}
 use Rattle.pass.specs.Answers.{stepOf, StepKeepsMeaning, placed, inOrder, verdictOf, tookStep, skippedStep, refusedStep}
 use Rattle.pass.proofs.Stepping.{step-relaxes}
 use Rattle.choice.specs.declared.Choice.the-variants as choice
@@ -63,8 +63,8 @@ module _ (p : Pass) (off : ℕ) where
   says-placed :
       (len : ℕ) (k : RelaxationKind) (t : ℕ) (m : Bool) (y : Rewritten) (fit empty before : Bool)
       → fits k len off ≡ fit → isEmpty k ≡ empty → ltb (begin k off) (p .window) ≡ before
-      → Says (apart p off (cond fit (gives (relaxed k t m y)) (refuses 6))) (placed p (cond fit (cond empty Empty (Between (begin k off) (end k off))) Outside)) (cond fit (gives (relaxed k t m y)) (refuses 6))
-  unfolding apart passAfter
+      → Says (clearing p off (cond fit (gives (relaxed k t m y)) (refuses 6))) (placed p (cond fit (cond empty Empty (Between (begin k off) (end k off))) Outside)) (cond fit (gives (relaxed k t m y)) (refuses 6))
+  unfolding clearing passAfter
   says-placed len k t m y false empty before f e b = (refl, refl)
   says-placed len k t m y true true before f e b = rw (e, e) (refl, refl)
   says-placed len k t m y true false true f e b = rw (e, b) (refl, refl)
@@ -80,10 +80,10 @@ module _ (p : Pass) (off : ℕ) where
   says-choice :
       (sec : List ℕ) (a : ℤ) (c : Choice)
       → Says
-      (checked (choiceOf c) (cond (ltb off (p .last)) (refuses 22) (cond (p .skip) (gives skipped) (apart p off (relaxChosen sec off a (choiceOf c))))))
+      (checked (choiceOf c) (cond (ltb off (p .last)) (refuses 22) (cond (p .skip) (gives skipped) (clearing p off (relaxChosen sec off a (choiceOf c))))))
       (verdictOf p c (length sec) off)
       (relaxChosen sec off a (choiceOf c))
-  unfolding checked relaxChosen apart passAfter
+  unfolding checked relaxChosen clearing passAfter
   says-choice sec a (choice.Refused n) = (refl, refl)
   says-choice sec a choice.Nothing = says-in-order (ltb off (p .last)) (p .skip) (gives (took unrelaxed)) Leave (gives unrelaxed) (refl, refl)
   says-choice sec a (choice.Chosen x) =

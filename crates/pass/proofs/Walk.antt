@@ -1,24 +1,26 @@
 -- What holds of every walk, by induction over the records: what one answer says of the pass and the section is what the rest goes on from.
 -- Assumes nothing.
-use mathlib.Core.Path.{_≡_, refl, ap, _∙_}
+use mathlib.Core.Path.{_≡_, refl, sym, ap, subst, _∙_}
 use mathlib.Core.Logic.{_⊎_, inl, inr}
 use mathlib.Core.Bool.{Bool, true, false, cond, _&&_, false≢true}
-use mathlib.Core.List.{List, [], _∷_, _++_}
+use mathlib.Core.List.{List, [], _∷_, _++_, map}
 use Prim.Native.Nat.{ℕ, zero, suc, _+_, _<_, _≤_}
 use native.Mathlib.Nat.{add-zero, le-trans, le-of-lt, le-of-suc-le-suc, not-suc-le-zero}
 use native.Mathlib.Omega.{arith}
-use lib.Dec.{ltb}
+use lib.Dec.{leb, ltb}
 use lib.ListN.{length, getD}
 use borrow.Author.Tests.{ltb-true, ltb-false, leb-true, eqb-true, eqb-false}
 use Rattle.rules.specs.Answer.{Answer, gives, refuses}
 use Rattle.rules.specs.Kinds.{RelaxationKind, shapeOf, fits}
+use Rattle.rules.specs.Choose.{Choice}
 use Rattle.rules.specs.Rewrite.{Rewritten, unrelaxed, relaxed, rewritten, afterRelaxing}
 use Rattle.spans.specs.Windows.{isEmpty, begin, end}
 use Rattle.spans.proofs.Kept.{Kept, kept}
 use Rattle.pass.specs.declared.Pass.{Pass}
-use Rattle.pass.specs.Pass.{Relocation, relaxingOf, Accepted, took, skipped, overlaps, stepping, passAfter, bytesAfter}
-use Rattle.pass.specs.Walk.{Walk, answer, after, stepped, walk, answers, offsetOf, offsets, Part, partOf, parts, Rising, Apart, Outside, Walks}
+use Rattle.pass.specs.Pass.{Relocation, choosingOf, relaxingOf, Accepted, took, skipped, overlaps, checked, clearing, stepping, passAfter, bytesAfter}
+use Rattle.pass.specs.Walk.{Walk, answer, after, stepped, walk, answers, offsetOf, offsets, Part, partOf, parts, Rising, Apart, Inside, Outside, Walks}
 use Rattle.pass.proofs.Stepping.{Sound, step-sound, relaxing-rewrites}
+use Rattle.pass.proofs.Steps.{ended-refuses}
 
 -- ---- order
 
@@ -43,6 +45,10 @@ side i b = by (ltb i b) refl where
 both : (a b : Bool) → (a && b) ≡ true → a ≡ true
 both true b h = refl
 both false b h = absurd (false≢true h)
+
+second : (a b : Bool) → (a && b) ≡ true → b ≡ true
+second true b h = h
+second false b h = absurd (false≢true h)
 
 module _ (p : Pass) (sec : List ℕ) (r : Relocation) where
   rises : (a : Answer Accepted) (os : List ℕ) → Sound p sec r a → Rising (passAfter p (r .offset) a .last) os → Rising (p .last) (offsetOf (r .offset) a ++ os)
@@ -96,12 +102,50 @@ module _ (p : Pass) (sec : List ℕ) (r : Relocation) where
       let g = misses k (isEmpty k) i xs refl h in
       (rewrites k t m x (s .1 .0) .outside i (g .0), g .1)
 
+  -- and lies inside
+  within : (k : RelaxationKind) (empty : Bool) (xs : List Part) → fits k (length sec) (r .offset) ≡ true → Inside (length sec) xs → Inside (length sec) (cond empty [] (record { from = begin k (r .offset); to = end k (r .offset) } ∷ []) ++ xs)
+  within k true xs f h = h
+  within k false xs f h = (leb-true _ _ (second (leb (shapeOf k .back) (r .offset)) _ f), h)
+
+  lies : (a : Answer Accepted) (xs : List Part) → Sound p sec r a → Inside (length sec) xs → Inside (length sec) (partOf (r .offset) a ++ xs)
+  lies (refuses n) xs s h = h
+  lies (gives skipped) xs s h = h
+  lies (gives (took unrelaxed)) xs s h = h
+  lies (gives (took (relaxed k t m x))) xs s h = within k (isEmpty k) xs (relaxing-rewrites sec r k t m x (s .1 .0) .0) h
+
   sized : (a : Answer Accepted) → Sound p sec r a → length (bytesAfter sec a) ≡ length sec
   unfolding bytesAfter afterRelaxing
   sized (refuses n) s = refl
   sized (gives skipped) s = refl
   sized (gives (took unrelaxed)) s = refl
   sized (gives (took (relaxed k t m x))) s = rewrites k t m x (s .1 .0) .size
+
+-- ---- a step that isn't idle, and one after the end
+
+works :
+    (w : Walk) (r : Relocation) (c : Choice) (k : RelaxationKind) (t : ℕ) (m : Bool) (x : Rewritten)
+    → w .pass .ended ≡ false → choosingOf (w .section) r ≡ gives c → ltb (r .offset) (w .pass .last) ≡ false → w .pass .skip ≡ false
+    → relaxingOf (w .section) r ≡ gives (relaxed k t m x) → overlaps (w .pass) k (r .offset) ≡ false
+    → answer w r ≡ gives (took (relaxed k t m x))
+unfolding stepping checked clearing
+works w r c k t m x e h l s f o = rw (h, l, f, o) (clear (w .pass .ended) (w .pass .skip) e s) where
+  clear : (ended skip : Bool) → ended ≡ false → skip ≡ false → cond ended (refuses 21) (cond skip (gives skipped) (gives (took (relaxed k t m x)))) ≡ gives (took (relaxed k t m x))
+  clear false false e s = refl
+  clear true skip e s = absurd (false≢true (sym e))
+  clear false true e s = absurd (false≢true (sym s))
+
+ended-step : (w : Walk) (r : Relocation) → w .pass .ended ≡ true → (answer w r ≡ refuses 21) × (stepped w r ≡ w)
+unfolding passAfter bytesAfter
+ended-step w r h =
+    let e = ended-refuses (w .pass) (w .section) r h in
+    (e, rw e)
+
+over : (w : Walk) (rs : List Relocation) → w .pass .ended ≡ true → (answers w rs ≡ map (λ _. refuses 21) rs) × (walk w rs ≡ w)
+over w [] h = (refl, refl)
+over w (r ∷ rs) h =
+    let e = ended-step w r h in
+    let o = over w rs h in
+    (rw (e .1, e .0) (ap (λ (l : List (Answer Accepted)). refuses 21 ∷ l) (o .0)), rw (e .1) (o .1))
 
 -- ---- every walk
 
@@ -115,6 +159,12 @@ rising w (r ∷ rs) = rises (w .pass) (w .section) r (answer w r) (offsets (step
 apart : (w : Walk) (rs : List Relocation) → Apart (w .pass .window) (parts w rs)
 apart w [] = tt
 apart w (r ∷ rs) = stays-apart (w .pass) (w .section) r (answer w r) (parts (stepped w r) rs) (sound w r) (apart (stepped w r) rs)
+
+inside : (w : Walk) (rs : List Relocation) → Inside (length (w .section)) (parts w rs)
+inside w [] = tt
+inside w (r ∷ rs) =
+    lies (w .pass) (w .section) r (answer w r) (parts (stepped w r) rs) (sound w r)
+    (subst (λ (n : ℕ). Inside n (parts (stepped w r) rs)) (sized (w .pass) (w .section) r (answer w r) (sound w r)) (inside (stepped w r) rs))
 
 held : (w : Walk) (rs : List Relocation) (i : ℕ) → Outside i (parts w rs) → getD (walk w rs .section) i 0 ≡ getD (w .section) i 0
 held w [] i h = refl
@@ -148,9 +198,12 @@ walks =
     record {
       order = order;
       joined = joined;
+      works = works;
+      over = over;
       rising = rising;
       apart = apart;
       no-overlap = λ w rs i j l g. pairwise (w .pass .window) (parts w rs) i j (apart w rs) l g;
+      inside = inside;
       kept = held;
       size = size;
     }

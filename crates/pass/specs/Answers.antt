@@ -1,6 +1,6 @@
 -- The code's answers as 'The pass above' has them, demand 3 of a step, and the parts of a step. Assumes nothing.
 use mathlib.Core.Path.{_≡_}
-use mathlib.Core.Bool.{Bool, true, false, cond}
+use mathlib.Core.Bool.{false, cond}
 use mathlib.Core.List.{List}
 use Prim.Native.Nat.{ℕ}
 use lib.Dec.{T, ltb}
@@ -12,7 +12,7 @@ use Rattle.relaxation.specs.declared.Relaxation.{Relaxation}
 use Rattle.rewriting.specs.declared.Moved.{Moved}
 use Rattle.choice.specs.declared.Choice.{Choice}
 use Rattle.relax.specs.declared.Relaxed.{Relaxed}
-use Rattle.relax.specs.Relax.{relaxedOf, rewrittenTo}
+use Rattle.relax.specs.Relax.{rewrittenTo}
 use Rattle.spans.specs.declared.Span.{Span}
 use Rattle.spans.specs.Windows.{spanOf}
 use Rattle.pass.specs.Pass.{Accepted, took, skipped}

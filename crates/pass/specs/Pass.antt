@@ -55,10 +55,10 @@ checked (refuses n) rest = refuses n
 checked (gives c) rest = rest
 
 -- "choice, 6" as relaxing has them, then 23
-unfoldable pub apart : Pass → ℕ → Answer Relaxed → Answer Accepted
-apart p off (refuses n) = refuses n
-apart p off (gives unrelaxed) = gives (took unrelaxed)
-apart p off (gives (relaxed k t m r)) = cond (overlaps p k off) (refuses 23) (gives (took (relaxed k t m r)))
+unfoldable pub clearing : Pass → ℕ → Answer Relaxed → Answer Accepted
+clearing p off (refuses n) = refuses n
+clearing p off (gives unrelaxed) = gives (took unrelaxed)
+clearing p off (gives (relaxed k t m r)) = cond (overlaps p k off) (refuses 23) (gives (took (relaxed k t m r)))
 
 -- "A pass step: 21, 1, 2, 3, 4, 22, skip, choice, 6, 23"
 unfoldable pub stepping : Pass → List ℕ → Relocation → Answer Accepted
@@ -66,7 +66,7 @@ stepping p sec r =
     cond (p .ended) (refuses 21)
     (checked (choosingOf sec r)
     (cond (ltb (r .offset) (p .last)) (refuses 22)
-    (cond (p .skip) (gives skipped) (apart p (r .offset) (relaxingOf sec r)))))
+    (cond (p .skip) (gives skipped) (clearing p (r .offset) (relaxingOf sec r)))))
 
 -- the pass then: "Accepted records .. set the last offset to the record's own, and a skipped one clears the pending skip. A refused step ..
 -- hands the pass back unchanged"; the window's end moves with a window that isn't empty

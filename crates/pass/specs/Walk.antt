@@ -4,14 +4,15 @@ use mathlib.Core.Logic.{_⊎_}
 use mathlib.Core.Bool.{Bool, true, false, cond}
 use mathlib.Core.List.{List, [], _∷_, _++_, map}
 use Prim.Native.Nat.{ℕ, _<_, _≤_}
-use lib.IntN.{negsuc}
+use lib.Dec.{ltb}
 use lib.ListN.{length, getD}
 use Rattle.rules.specs.Answer.{Answer, gives, refuses}
-use Rattle.rules.specs.Kinds.{shapeOf}
-use Rattle.rules.specs.Rewrite.{unrelaxed, relaxed}
+use Rattle.rules.specs.Kinds.{RelaxationKind}
+use Rattle.rules.specs.Choose.{Choice}
+use Rattle.rules.specs.Rewrite.{Rewritten, unrelaxed, relaxed}
 use Rattle.spans.specs.Windows.{isEmpty, begin, end}
 use Rattle.pass.specs.declared.Pass.{Pass}
-use Rattle.pass.specs.Pass.{Relocation, relocation, Accepted, took, skipped, freshPass, stepping, passAfter, bytesAfter, ending, endedPass}
+use Rattle.pass.specs.Pass.{Relocation, choosingOf, relaxingOf, Accepted, took, skipped, overlaps, stepping, passAfter, bytesAfter}
 
 -- a pass and its section
 pub record Walk : Type 0 where
@@ -73,6 +74,11 @@ abbrev pub Apart : ℕ → List Part → Type 0
 Apart low [] = Unit {0}
 Apart low (x ∷ xs) = (low ≤ x .from) × (x .from < x .to) × Apart (x .to) xs
 
+-- each ends at or before `high`
+abbrev pub Inside : ℕ → List Part → Type 0
+Inside high [] = Unit {0}
+Inside high (x ∷ xs) = (x .to ≤ high) × Inside high xs
+
 -- a byte that lies in none
 abbrev pub Outside : ℕ → List Part → Type 0
 Outside i [] = Unit {0}
@@ -81,11 +87,20 @@ Outside i (x ∷ xs) = ((i < x .from) ⊎ (x .to ≤ i)) × Outside i xs
 -- ---- what holds of every walk
 
 pub record Walks : Type 0 where
-  -- "the step order, which holds at every record": a record's answer is the step's, from what the records before it left
+  -- "the step order, which holds at every record": wherever a record stands, its answer is the step's, from what the records before it
+  -- left; these two hold of any step folded, and the next says that the step is not idle
   pub order :
       (w : Walk) (before : List Relocation) (r : Relocation) (rest : List Relocation)
       → answers w (before ++ r ∷ rest) ≡ answers w before ++ answer (walk w before) r ∷ answers (stepped (walk w before) r) rest
   pub joined : (w : Walk) (before rest : List Relocation) → walk w (before ++ rest) ≡ walk (walk w before) rest
+  -- a record that relaxing one record relaxes is relaxed, wherever it stands, unless 21, 22, 23 or the skip says otherwise
+  pub works :
+      (w : Walk) (r : Relocation) (c : Choice) (k : RelaxationKind) (t : ℕ) (m : Bool) (x : Rewritten)
+      → w .pass .ended ≡ false → choosingOf (w .section) r ≡ gives c → ltb (r .offset) (w .pass .last) ≡ false → w .pass .skip ≡ false
+      → relaxingOf (w .section) r ≡ gives (relaxed k t m x) → overlaps (w .pass) k (r .offset) ≡ false
+      → answer w r ≡ gives (took (relaxed k t m x))
+  -- a pass that has ended answers 21 to every record, and nothing changes
+  pub over : (w : Walk) (rs : List Relocation) → w .pass .ended ≡ true → (answers w rs ≡ map (λ _. refuses 21) rs) × (walk w rs ≡ w)
   -- offsets never fall
   pub rising : (w : Walk) (rs : List Relocation) → Rising (w .pass .last) (offsets w rs)
   -- windows never overlap: none begins before the end of the last one, and so none before the end of any
@@ -93,6 +108,8 @@ pub record Walks : Type 0 where
   pub no-overlap :
       (w : Walk) (rs : List Relocation) (i j : ℕ) → i < j → j < length (parts w rs)
       → getD (parts w rs) i (record { from = 0; to = 0 }) .to ≤ getD (parts w rs) j (record { from = 0; to = 0 }) .from
+  -- every window lies inside the section
+  pub inside : (w : Walk) (rs : List Relocation) → Inside (length (w .section)) (parts w rs)
   -- a byte outside all windows is as it was
   pub kept : (w : Walk) (rs : List Relocation) (i : ℕ) → Outside i (parts w rs) → getD (walk w rs .section) i 0 ≡ getD (w .section) i 0
   pub size : (w : Walk) (rs : List Relocation) → length (walk w rs .section) ≡ length (w .section)

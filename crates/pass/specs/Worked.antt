@@ -33,9 +33,9 @@ section =
 abbrev at : ℕ → ℕ → Relocation
 at type off = relocation off 1 0 0x401000 (negsuc 3) type true
 
--- the sequence, and a load that would be relaxed but stands before it; then the call, which is skipped, a load that is relaxed, a
--- descriptor's call past its window, another that begins inside the last window, one that is cut off there, an empty window inside it, and
--- a type with no rule
+-- a sequence; a record before it; the sequence's call, which is skipped; a load; a descriptor's call past the load's window, and one that
+-- begins inside that call's own; an empty window inside it; a type with no rule; a descriptor's call past the last window, and one that
+-- begins inside it but is cut off; and an offset past the end
 abbrev pub records : List Relocation
 records =
     at 19 4
@@ -46,6 +46,7 @@ records =
     ∷ at 35 20
     ∷ at 4 20
     ∷ at 1 20
+    ∷ at 35 21
     ∷ at 35 22
     ∷ at 1 24
     ∷ []
@@ -59,17 +60,18 @@ passOf l w s e = record { last = l; window = w; skip = s; ended = e }
 pub record Worked : Type 0 where
   pub told-all :
       map told (answers start records)
-      ≡ relaxes 10 ∷ refused 22 ∷ skips ∷ relaxes 2 ∷ relaxes 18 ∷ refused 23 ∷ relaxes 9 ∷ leaves ∷ refused 6 ∷ refused 2 ∷ []
-  pub ends-at : walk start records .pass ≡ passOf 20 21 false false
+      ≡ relaxes 10 ∷ refused 22 ∷ skips ∷ relaxes 2 ∷ relaxes 18 ∷ refused 23 ∷ relaxes 9 ∷ leaves ∷ relaxes 18 ∷ refused 6 ∷ refused 2 ∷ []
+  pub ends-at : walk start records .pass ≡ passOf 21 23 false false
   pub holds :
       walk start records .section
-      ≡ 0x64 ∷ 0x48 ∷ 0x8B ∷ 0x04 ∷ 0x25 ∷ 0 ∷ 0 ∷ 0 ∷ 0 ∷ 0x48 ∷ 0x8D ∷ 0x80 ∷ 0 ∷ 0 ∷ 0 ∷ 0 ∷ 0x49 ∷ 0xC7 ∷ 0xC5 ∷ 0x66 ∷ 0x90 ∷ 0 ∷ 0 ∷ []
+      ≡ 0x64 ∷ 0x48 ∷ 0x8B ∷ 0x04 ∷ 0x25 ∷ 0 ∷ 0 ∷ 0 ∷ 0 ∷ 0x48 ∷ 0x8D ∷ 0x80 ∷ 0 ∷ 0 ∷ 0 ∷ 0 ∷ 0x49 ∷ 0xC7 ∷ 0xC5 ∷ 0x66 ∷ 0x90 ∷ 0x66 ∷ 0x90 ∷ []
   -- byte 15 lies in no window, as the law of bytes asks
   pub outside : Outside 15 (parts start records)
   -- after the first record a skip is pending: 24, and nothing changes; after the last the ending is granted; then 21, of both
+  pub begun : walk start (at 19 4 ∷ []) .pass ≡ passOf 4 12 true false
   pub pending : ending (passOf 4 12 true false) ≡ refuses 24
   pub pending-kept : endedPass (passOf 4 12 true false) (refuses 24) ≡ passOf 4 12 true false
-  pub granted : ending (passOf 20 21 false false) ≡ gives tt
-  pub ended : endedPass (passOf 20 21 false false) (gives tt) ≡ passOf 20 21 false true
-  pub over : ending (passOf 20 21 false true) ≡ refuses 21
-  pub over-step : map told (answers (record { pass = passOf 20 21 false true; section = section }) (at 1 20 ∷ [])) ≡ refused 21 ∷ []
+  pub granted : ending (passOf 21 23 false false) ≡ gives tt
+  pub ended : endedPass (passOf 21 23 false false) (gives tt) ≡ passOf 21 23 false true
+  pub over : ending (passOf 21 23 false true) ≡ refuses 21
+  pub over-step : map told (answers (record { pass = passOf 21 23 false true; section = section }) (at 1 21 ∷ [])) ≡ refused 21 ∷ []

@@ -1,7 +1,7 @@
 -- A kind's window as the code has it, and where it lies. Assumes nothing.
 use mathlib.Core.Bool.{Bool, cond}
 use Prim.Native.Nat.{ℕ, _+_, _-_}
-use lib.Dec.{eqb, leb}
+use lib.Dec.{eqb}
 use Rattle.rules.specs.Kinds.{RelaxationKind, shapeOf, fits}
 use Rattle.spans.specs.declared.Window.{Window}
 use Rattle.spans.specs.declared.Span.{Span}

@@ -1,4 +1,4 @@
-// The window of each relaxation kind: the bytes that `apply` reads or writes.
+// The windows of the relaxation kinds, the bytes that `apply` reads or writes, and where one lies.
 ghost use mathlib.Core.Path.{_≡_};
 ghost use mathlib.Core.Bool.{cond};
 ghost use lib.Dec.{eqb};
@@ -7,9 +7,9 @@ ghost use Rattle.spans.specs.Windows.{windowOf, prefixed, spanOf};
 use relaxation_kind::RelaxationKind;
 
 // `size` bytes, from `back` before the offset on.
-pub struct Window {
-    pub back: u64,
-    pub size: u64,
+struct Window {
+    back: u64,
+    size: u64,
 }
 
 // Where a window lies in a section.
@@ -44,7 +44,7 @@ pub fn span_of(kind: RelaxationKind, len: u64, offset: u64) -> Span
     Span::Between(begin, begin + size)
 }
 
-pub fn window_of(kind: RelaxationKind) -> Window
+fn window_of(kind: RelaxationKind) -> Window
     ensures { λ r. ⌜ r ≡ windowOf (kindOf kind) ⌝ }
 {
     match kind {
