@@ -1,3 +1,4 @@
 pub mod Text
 pub mod CaseFile
 pub mod Parts
+pub mod Sample

@@ -16,6 +16,7 @@ ghost use Rattle.io.specs.Counts.{Counts};
 ghost use Rattle.io.specs.Digits.{glyph as Digits·glyph};
 ghost use Rattle.case_file.specs.Text.{decimal, signedDecimal, hex, Puts};
 ghost use Rattle.case_file.specs.CaseFile.{number, caseAt, readAt, field, flag, ending, line, sectionOf, relaxingOf, lineOf, lines, text};
+ghost use Rattle.case_file.specs.Sample.{SampleHolds};
 ghost use Rattle.case_file.specs.Parts.{roomFrom, PutsNext};
 use relax::Relaxed;
 use relaxation::Relaxation;
@@ -375,11 +376,12 @@ fn put_lines(out: &mut [u8], file: &[u8]) -> usize
 }
 
 // The text of a case file, of which at most 65,536 bytes count, at the start of `out`, and how long
-// it is.
+// it is. The contract ends with document 01's sample.
 pub fn print_cases(file: &[u8], out: &mut [u8; 458923]) -> usize
     ensures { λ _. ⌜ now (out .exit) ≡ sets (now (out .entry)) 0 (text (now (file .entry))) ⌝ }
     ensures { λ r. ⌜ r ≡ length (text (now (file .entry))) ⌝ }
     ensures { λ r. ⌜ Counts r (now (out .exit)) ⌝ }
+    ensures { λ _. ⌜ SampleHolds ⌝ }
 {
     let most = shorter(file.len());
     put_lines(out, &file[..most])
