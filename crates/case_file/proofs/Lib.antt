@@ -1,5 +1,4 @@
 pub mod Puts
-pub mod Numbers
 pub mod Decimals
 pub mod Signs
 pub mod Lines

@@ -11,12 +11,13 @@ use lib.ListN.{length, take, length-append}
 use lib.Seq.{sets, take-all, take-length, length-take-le}
 use borrow.Author.Tests.{le-leb, leb-true, leb-false, ltb-true, ltb-false}
 use Rattle.rules.specs.Answer.{refuses}
-use Rattle.case_file.specs.declared.Case.{Case}
-use Rattle.case_file.specs.declared.Read.{Read}
-use Rattle.case_file.specs.declared.Read.the-variants.{End, Torn, Whole}
+use Rattle.case_read.specs.declared.Case.{Case}
+use Rattle.case_read.specs.declared.Read.{Read}
+use Rattle.case_read.specs.declared.Read.the-variants.{End, Torn, Whole}
 use Rattle.case_file.specs.declared.Next.{Next}
+use Rattle.case_read.specs.Reading.{byteOf, numberOf, marked, caseAt, readAt}
 use Rattle.case_file.specs.Text.{Puts}
-use Rattle.case_file.specs.CaseFile.{byteOf, numberOf, marked, caseAt, readAt, line, lineOf, textOf, placeAfter, lines}
+use Rattle.case_file.specs.CaseFile.{line, lineOf, textOf, placeAfter, lines}
 use Rattle.case_file.specs.Parts.{roomFrom, PutsNext}
 use Rattle.case_file.proofs.Puts.{sets-append}
 

@@ -4,7 +4,7 @@ use mathlib.Core.List.{List}
 use Prim.Native.Nat.{ℕ, _+_, _-_, _*_, _≤_, _<_}
 use lib.ListN.{length}
 use lib.Seq.{sets}
-use Rattle.case_file.specs.declared.Read.{Read}
+use Rattle.case_read.specs.declared.Read.{Read}
 use Rattle.case_file.specs.declared.Next.{Next}
 use Rattle.case_file.specs.CaseFile.{textOf, placeAfter}
 

@@ -1,10 +1,10 @@
-// The case file of document 01: reading the record at a place, the text of its line, and the text of
-// a whole file. The functions that put text into a buffer answer the place after it.
+// The case file of document 01: the text of a record's line, and of a whole file. The functions that
+// put text into a buffer answer the place after it.
 ghost use mathlib.Core.Path.{_≡_};
 ghost use mathlib.Core.Bool.{not};
 ghost use mathlib.Core.List.{[], _∷_, _++_};
 ghost use Prim.Native.Nat.{_+_, _*_, _≤_, _<_, min};
-ghost use lib.ListN.{length, take, drop};
+ghost use lib.ListN.{length};
 ghost use lib.IntN.{natAbs};
 ghost use lib.Signed.{nonNeg};
 ghost use lib.Seq.{sets};
@@ -14,95 +14,16 @@ ghost use Rattle.relax.specs.Relax.{relaxedOf};
 ghost use Rattle.relax.specs.declared.Relaxed.the-variants as answer;
 ghost use Rattle.io.specs.Counts.{Counts};
 ghost use Rattle.io.specs.Digits.{glyph as Digits·glyph};
+ghost use Rattle.case_read.specs.Reading.{readAt};
 ghost use Rattle.case_file.specs.Text.{decimal, signedDecimal, hex, Puts};
-ghost use Rattle.case_file.specs.CaseFile.{number, caseAt, readAt, field, flag, ending, line, sectionOf, relaxingOf, lineOf, lines, text};
+ghost use Rattle.case_file.specs.CaseFile.{field, flag, ending, line, sectionOf, relaxingOf, lineOf, lines, text};
 ghost use Rattle.case_file.specs.Sample.{SampleHolds};
 ghost use Rattle.case_file.specs.Parts.{roomFrom, PutsNext};
+use case_read::Case;
+use case_read::Read;
 use relax::Relaxed;
 use relaxation::Relaxation;
 use rewriting::Moved;
-
-// A record as the file has it: the addend as it stands, and where the section lies.
-pub struct Case {
-    pub r_type: u8,
-    pub flags: u8,
-    pub output_kind: u8,
-    pub executable: bool,
-    pub offset: u64,
-    pub address: u64,
-    pub addend: u64,
-    pub start: usize,
-    pub len: usize,
-}
-
-// What stands at a place: nothing, a record that is refused with 10 to 13, or a whole record.
-pub enum Read {
-    End,
-    Torn(u8),
-    Whole(Case),
-}
-
-// ---- Reading
-
-// The record at a place of a file. Refusals 11, 10, 12, 13, 11.
-pub fn read_at(file: &[u8], at: usize) -> Read
-    ensures { λ r. ⌜ r ≡ readAt (now (file .entry)) at ⌝ }
-{
-    if file.len() <= at {
-        return Read::End;
-    }
-    let left = file.len() - at;
-    if left < 26 {
-        return Read::Torn(11);
-    }
-    let marked = (file[at] == 0x52) & (file[at + 1] == 0x58);
-    if marked {
-        if 1 < file[at + 5] {
-            return Read::Torn(12);
-        }
-        let case = case_at(file, at);
-        let len = case.len;
-        if 4096 < len {
-            return Read::Torn(13);
-        }
-        if left - 26 < len {
-            return Read::Torn(11);
-        }
-        return Read::Whole(case);
-    }
-    Read::Torn(10)
-}
-
-fn case_at(file: &[u8], at: usize) -> Case
-    requires { ⌜ at + 26 ≤ length (now file) ⌝ }
-    ensures { λ r. ⌜ r ≡ caseAt (now (file .entry)) at ⌝ }
-{
-    Case {
-        r_type: file[at + 2],
-        flags: file[at + 3],
-        output_kind: file[at + 4],
-        executable: file[at + 5] == 1,
-        offset: number_at(file, at + 6, 2),
-        address: number_at(file, at + 10, 8),
-        addend: number_at(file, at + 18, 8),
-        start: at + 26,
-        len: number_at(file, at + 8, 2) as usize,
-    }
-}
-
-// A number of `width` bytes, low byte first.
-fn number_at(file: &[u8], at: usize, width: usize) -> u64
-    requires { ⌜ (at + width ≤ length (now file)) × (width ≤ 8) ⌝ }
-    ensures { λ r. ⌜ r ≡ number (take width (drop at (now (file .entry)))) ⌝ }
-{
-    let mut i = width;
-    let mut value = 0;
-    while 0 < i {
-        i -= 1;
-        value = value * 256 + file[at + i] as u64;
-    }
-    value
-}
 
 // ---- Text
 
@@ -335,7 +256,7 @@ fn put_next(out: &mut [u8], at: usize, number: u64, file: &[u8], place: usize) -
     requires { ⌜ roomFrom at (now file) place ≤ length (now out) ⌝ }
     ensures { λ r. ⌜ PutsNext (now (out .entry)) at (now (file .entry)) number (readAt (now (file .entry)) place) (now (out .exit)) r ⌝ }
 {
-    match read_at(file, place) {
+    match case_read::read_at(file, place) {
         Read::End => Next {
             place: file.len(),
             at: at,

@@ -8,7 +8,7 @@ use native.Mathlib.Omega.{arith}
 use lib.Dec.{lit<}
 use lib.ListN.{length, getD, take, drop}
 use lib.Seq.{drop-cons}
-use Rattle.case_file.specs.CaseFile.{number}
+use Rattle.case_read.specs.Reading.{number}
 
 module _ (file : List ℕ) (at w i v : ℕ) (some : 0 < i) (within : i ≤ w) where
   -- one byte more in front: the number, and how large it is

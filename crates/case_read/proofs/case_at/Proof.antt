@@ -2,8 +2,8 @@
 -- Assumes nothing.
 use lib.Dec.{lit≤}
 use native.Mathlib.Omega.{arith}
-use Rattle.case_file.proofs.case_at.Statement.{statement}
-use Rattle.case_file.proofs.case_at.Tie as tie
+use Rattle.case_read.proofs.case_at.Statement.{statement}
+use Rattle.case_read.proofs.case_at.Tie as tie
 
 pub case-at-spec : {M : Type 1} → statement M
 case-at-spec =

@@ -1,16 +1,16 @@
 -- `number_at` meets its contract. The loop goes down: what it has is the number of the bytes from `i` on.
 -- Assumes nothing.
 use Prim.Native.Nat.{_+_, _-_, _^_, _<_, _≤_}
-use Rattle.case_file.proofs.Numbers.{number-next, larger, fits-word}
-use Rattle.case_file.specs.CaseFile.{number}
+use Rattle.case_read.proofs.Numbers.{number-next, larger, fits-word}
+use Rattle.case_read.specs.Reading.{number}
 use borrow.Author.Needs.{needs}
 use lib.Dec.{lit<}
 use lib.ListN.{take, drop}
 use mathlib.Core.Path.{_≡_, refl}
 use native.Mathlib.Nat.{sub-self, sub-zero, add-zero}
 use native.Mathlib.Omega.{arith}
-use Rattle.case_file.proofs.number_at.Statement.{statement}
-use Rattle.case_file.proofs.number_at.Tie as tie
+use Rattle.case_read.proofs.number_at.Statement.{statement}
+use Rattle.case_read.proofs.number_at.Tie as tie
 
 abbrev Inv-loop : tie.InvT-loop
 Inv-loop file at width i₀ value₀ i value = (i ≤ width) × (value ≡ number (take (width - i) (drop (at + i) file))) × (value < 256 ^ (width - i))

@@ -1,12 +1,12 @@
 -- `read_at` meets its contract, refusal by refusal.
 -- Assumes nothing.
-use Rattle.case_file.specs.CaseFile.{readAt}
+use Rattle.case_read.specs.Reading.{readAt}
 use borrow.Author.Needs.{needs}
 use borrow.Author.Tests.{le-leb, lt-leb, lt-ltb, le-ltb}
 use native.Mathlib.Nat.{add-zero}
 use native.Mathlib.Omega.{arith}
-use Rattle.case_file.proofs.read_at.Statement.{statement}
-use Rattle.case_file.proofs.read_at.Tie as tie
+use Rattle.case_read.proofs.read_at.Statement.{statement}
+use Rattle.case_read.proofs.read_at.Tie as tie
 
 pub read-at-spec : {M : Type 1} → statement M
 unfolding readAt
