@@ -109,7 +109,7 @@ module _ (p : Pass) (sec : List ℕ) (r : Relocation) where
   keeps s new e =
       record {
         alike =
-            λ c i x m q. same-meaning .relaxes (r .type) sec (r .offset) (r .flags) (r .kind) (r .address) (r .addend) (r .executable) c i (kindOf (x .kind)) (x .«new_type») (x .mandatory) (rewrittenTo new m) (step-relaxes p sec r _ _ _ _ (rw q at (sym e)));
+            λ c i x m q. same-meaning .relaxes (r .type) sec (r .offset) (r .flags) (r .output-kind) (r .address) (r .addend) (r .executable) c i (kindOf (x .kind)) (x .«new_type») (x .mandatory) (rewrittenTo new m) (step-relaxes p sec r _ _ _ _ (rw q at (sym e)));
       }
 
   -- refused, and no byte touched

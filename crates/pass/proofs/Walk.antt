@@ -2,7 +2,7 @@
 -- Assumes nothing.
 use mathlib.Core.Path.{_≡_, refl, sym, ap, subst, _∙_}
 use mathlib.Core.Logic.{_⊎_, inl, inr}
-use mathlib.Core.Bool.{Bool, true, false, cond, _&&_, false≢true}
+use mathlib.Core.Bool.{Bool, true, false, cond, false≢true}
 use mathlib.Core.List.{List, [], _∷_, _++_, map}
 use Prim.Native.Nat.{ℕ, zero, suc, _+_, _<_, _≤_}
 use native.Mathlib.Nat.{add-zero, le-trans, le-of-lt, le-of-suc-le-suc, not-suc-le-zero}
@@ -15,6 +15,7 @@ use Rattle.rules.specs.Kinds.{RelaxationKind, shapeOf, fits}
 use Rattle.rules.specs.Choose.{Choice}
 use Rattle.rules.specs.Rewrite.{Rewritten, unrelaxed, relaxed, rewritten, afterRelaxing}
 use Rattle.spans.specs.Windows.{isEmpty, begin, end}
+use Rattle.laws.proofs.Bools.{both}
 use Rattle.spans.proofs.Kept.{Kept, kept}
 use Rattle.pass.specs.declared.Pass.{Pass}
 use Rattle.pass.specs.Pass.{Relocation, choosingOf, relaxingOf, Accepted, took, skipped, overlaps, checked, clearing, stepping, passAfter, bytesAfter}
@@ -41,14 +42,6 @@ side i b = by (ltb i b) refl where
   by : (t : Bool) → ltb i b ≡ t → (i < b) ⊎ (b ≤ i)
   by true e = inl (ltb-true i b e)
   by false e = inr (ltb-false i b e)
-
-both : (a b : Bool) → (a && b) ≡ true → a ≡ true
-both true b h = refl
-both false b h = absurd (false≢true h)
-
-second : (a b : Bool) → (a && b) ≡ true → b ≡ true
-second true b h = h
-second false b h = absurd (false≢true h)
 
 module _ (p : Pass) (sec : List ℕ) (r : Relocation) where
   rises : (a : Answer Accepted) (os : List ℕ) → Sound p sec r a → Rising (passAfter p (r .offset) a .last) os → Rising (p .last) (offsetOf (r .offset) a ++ os)
@@ -91,7 +84,7 @@ module _ (p : Pass) (sec : List ℕ) (r : Relocation) where
   rewrites : (k : RelaxationKind) (t : ℕ) (m : Bool) (x : Rewritten) → relaxingOf sec r ≡ gives (relaxed k t m x) → Kept (begin k (r .offset)) (end k (r .offset)) sec (x .bytes)
   rewrites k t m x e =
       let f = relaxing-rewrites sec r k t m x e in
-      rw (f .1) (kept k sec (r .offset) (leb-true _ _ (both _ _ (f .0))))
+      rw (f .1) (kept k sec (r .offset) (leb-true _ _ (both (leb (shapeOf k .back) (r .offset)) _ (f .0) .0)))
 
   keeps : (a : Answer Accepted) (i : ℕ) (xs : List Part) → Sound p sec r a → Outside i (partOf (r .offset) a ++ xs) → (getD (bytesAfter sec a) i 0 ≡ getD sec i 0) × Outside i xs
   unfolding bytesAfter afterRelaxing
@@ -105,7 +98,7 @@ module _ (p : Pass) (sec : List ℕ) (r : Relocation) where
   -- and lies inside
   within : (k : RelaxationKind) (empty : Bool) (xs : List Part) → fits k (length sec) (r .offset) ≡ true → Inside (length sec) xs → Inside (length sec) (cond empty [] (record { from = begin k (r .offset); to = end k (r .offset) } ∷ []) ++ xs)
   within k true xs f h = h
-  within k false xs f h = (leb-true _ _ (second (leb (shapeOf k .back) (r .offset)) _ f), h)
+  within k false xs f h = (leb-true _ _ (both (leb (shapeOf k .back) (r .offset)) _ f .1), h)
 
   lies : (a : Answer Accepted) (xs : List Part) → Sound p sec r a → Inside (length sec) xs → Inside (length sec) (partOf (r .offset) a ++ xs)
   lies (refuses n) xs s h = h

@@ -15,7 +15,7 @@ use Rattle.pass.specs.declared.Pass.{Pass}
 pub record Relocation : Type 0 where
   pub offset : ℕ
   pub flags : ℕ
-  pub kind : ℕ
+  pub output-kind : ℕ
   pub address : ℕ
   pub addend : ℤ
   pub type : ℕ
@@ -23,16 +23,16 @@ pub record Relocation : Type 0 where
 
 abbrev pub relocation : ℕ → ℕ → ℕ → ℕ → ℤ → ℕ → Bool → Relocation
 relocation o f k v a t x =
-    record { offset = o; flags = f; kind = k; address = v; addend = a; type = t; executable = x }
+    record { offset = o; flags = f; output-kind = k; address = v; addend = a; type = t; executable = x }
 
 -- what lies below: choosing and relaxing one record
 abbrev pub choosingOf : List ℕ → Relocation → Answer Choice
 choosingOf sec r =
-    choosing sec (r .offset) (r .flags) (r .kind) (r .address) (r .addend) (r .type) (r .executable)
+    choosing sec (r .offset) (r .flags) (r .output-kind) (r .address) (r .addend) (r .type) (r .executable)
 
 abbrev pub relaxingOf : List ℕ → Relocation → Answer Relaxed
 relaxingOf sec r =
-    relaxing sec (r .offset) (r .flags) (r .kind) (r .address) (r .addend) (r .type) (r .executable)
+    relaxing sec (r .offset) (r .flags) (r .output-kind) (r .address) (r .addend) (r .type) (r .executable)
 
 -- "A fresh pass has 0, 0, no, no"
 abbrev pub freshPass : Pass

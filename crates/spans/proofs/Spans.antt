@@ -1,15 +1,11 @@
 -- Where a window lies, by the tests that tell it: one law for each way that it isn't inside, and one where it is. Assumes nothing.
-use mathlib.Core.Path.{_≡_, refl}
-use mathlib.Core.Bool.{Bool, true, false, cond, _&&_}
+use mathlib.Core.Path.{_≡_}
 use Prim.Native.Nat.{ℕ, _+_, _-_, _<_, _≤_}
 use borrow.Author.Tests.{le-leb, lt-leb, eq-eqb, ne-eqb}
+use Rattle.laws.proofs.Bools.{and-false}
 use Rattle.rules.specs.Kinds.{RelaxationKind, shapeOf}
 use Rattle.spans.specs.Windows.{begin, end, spanOf}
 use Rattle.spans.specs.declared.Span.the-variants.{Outside, Empty, Between}
-
-and-false : (b : Bool) → (b && false) ≡ false
-and-false true = refl
-and-false false = refl
 
 module _ (k : RelaxationKind) (len off : ℕ) where
   pub starts-before : off < shapeOf k .back → Outside ≡ spanOf k len off
