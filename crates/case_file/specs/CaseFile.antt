@@ -26,13 +26,20 @@ flag b = cond b 1 0
 abbrev pub ending : List ℕ → List ℕ
 ending s = hex s ++ (10 ∷ [])
 
+-- `none ` and `refused `
+abbrev pub noneWord : List ℕ
+noneWord = 110 ∷ 111 ∷ 110 ∷ 101 ∷ 32 ∷ []
+
+abbrev pub refusedWord : List ℕ
+refusedWord = 114 ∷ 101 ∷ 102 ∷ 117 ∷ 115 ∷ 101 ∷ 100 ∷ 32 ∷ []
+
 -- "A line: record number from 1, kind .., instruction offset or 0, new offset, new addend, new type, skip 0/1, mandatory 0/1, section in hex
 -- or "-". Other lines: `N none HEX`, `N refused R HEX`": number, answer, the section then
 unfoldable pub line : ℕ → Answer Relaxed → List ℕ → List ℕ
 line n (gives (relaxed k t m r)) s =
     field n ++ field (shapeOf k .number) ++ field (shapeOf k .inst) ++ field (r .offset) ++ (signedDecimal (r .addend) ++ (32 ∷ [])) ++ field t ++ field (flag (skips k)) ++ field (flag m) ++ ending s
-line n (gives unrelaxed) s = field n ++ (110 ∷ 111 ∷ 110 ∷ 101 ∷ 32 ∷ []) ++ ending s
-line n (refuses k) s = field n ++ (114 ∷ 101 ∷ 102 ∷ 117 ∷ 115 ∷ 101 ∷ 100 ∷ 32 ∷ []) ++ field k ++ ending s
+line n (gives unrelaxed) s = field n ++ noneWord ++ ending s
+line n (refuses k) s = field n ++ refusedWord ++ field k ++ ending s
 
 -- ---- a file's text
 
