@@ -3,3 +3,4 @@ pub mod Decimals
 pub mod Signs
 pub mod Lines
 pub mod Sample
+pub mod Bounds

@@ -1,12 +1,14 @@
--- What printing one record of a file gives: its text, the next place, and room for the rest. Assumes nothing.
+-- What printing one record of a file gives: its text, the next place, and room for the rest; and how long a line can be. Assumes nothing.
 use mathlib.Core.Path.{_≡_}
 use mathlib.Core.List.{List}
 use Prim.Native.Nat.{ℕ, _+_, _-_, _*_, _≤_, _<_}
 use lib.ListN.{length}
 use lib.Seq.{sets}
+use Rattle.rules.specs.Answer.{Answer}
+use Rattle.rules.specs.Rewrite.{Relaxed}
 use Rattle.case_read.specs.declared.Read.{Read}
 use Rattle.case_file.specs.declared.Next.{Next}
-use Rattle.case_file.specs.CaseFile.{textOf, placeAfter}
+use Rattle.case_file.specs.CaseFile.{line, textOf, placeAfter}
 
 -- a line takes 171 bytes at most, and two for each byte of its section; a record takes 26 and its section, so that 171 bytes, and 7 for
 -- each byte of the file that is left, are room enough
@@ -20,3 +22,7 @@ pub record PutsNext (old : List ℕ) (at : ℕ) (file : List ℕ) (n : ℕ) (rea
   pub bound : next .at ≤ length new
   pub room : next .place < length file → roomFrom (next .at) file (next .place) ≤ length new
   pub size : length new ≡ length old
+
+-- the longest possible line, whatever the number, the answer and the section
+pub record Bounds : Type 0 where
+  pub line-bound : (n : ℕ) (a : Answer Relaxed) (s : List ℕ) → length (line n a s) ≤ 171 + 2 * length s

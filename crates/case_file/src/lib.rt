@@ -18,7 +18,7 @@ ghost use Rattle.case_read.specs.Reading.{readAt};
 ghost use Rattle.case_file.specs.Text.{decimal, signedDecimal, hex, Puts};
 ghost use Rattle.case_file.specs.CaseFile.{field, flag, ending, line, sectionOf, relaxingOf, lineOf, lines, text};
 ghost use Rattle.case_file.specs.Sample.{SampleHolds};
-ghost use Rattle.case_file.specs.Parts.{roomFrom, PutsNext};
+ghost use Rattle.case_file.specs.Parts.{roomFrom, PutsNext, Bounds};
 use case_read::Case;
 use case_read::Read;
 use relax::Relaxed;
@@ -297,18 +297,20 @@ fn put_lines(out: &mut [u8], file: &[u8]) -> usize
 }
 
 // The text of a case file, of which at most 65,536 bytes count, at the start of `out`, and how long
-// it is. The contract ends with document 01's sample.
+// it is. The contract ends with how long a line can be, and with document 01's sample.
 pub fn print_cases(file: &[u8], out: &mut [u8; 458923]) -> usize
     ensures { λ _. ⌜ now (out .exit) ≡ sets (now (out .entry)) 0 (text (now (file .entry))) ⌝ }
     ensures { λ r. ⌜ r ≡ length (text (now (file .entry))) ⌝ }
     ensures { λ r. ⌜ Counts r (now (out .exit)) ⌝ }
+    ensures { λ _. ⌜ Bounds ⌝ }
     ensures { λ _. ⌜ SampleHolds ⌝ }
 {
-    let most = shorter(file.len());
+    let most = counted(file.len());
     put_lines(out, &file[..most])
 }
 
-fn shorter(len: usize) -> usize
+// How many bytes of a file count.
+fn counted(len: usize) -> usize
     ensures { λ r. ⌜ r ≡ min len 65536 ⌝ }
 {
     if len < 65536 { len } else { 65536 }

@@ -1,5 +1,6 @@
--- `print_cases` meets its contract: at most 65,536 bytes count, and for those there is room; the sample is computed.
+-- `print_cases` meets its contract: at most 65,536 bytes count, and for those there is room; how long a line can be is a law, and the sample is computed.
 -- Assumes nothing.
+use Rattle.case_file.proofs.Bounds.{bounds}
 use Rattle.case_file.proofs.Lines.{cut, room-enough}
 use Rattle.case_file.proofs.Sample.{sample-holds}
 use Rattle.case_file.specs.CaseFile.{text}
@@ -18,6 +19,6 @@ print-cases-spec =
     tie.close
     (tie.spec
     (λ c κs. search needs)
-    (λ c. let a = c .before .before .before .before .args in let t = cut (a .file .now) _ (c .before .before .shorter .ensures) in sym (length-take-le _ (a .file .now) (t .1)))
-    (λ c κs. let a = c .before .before .before .before .args in let t = cut (a .file .now) _ (c .before .before .shorter .ensures) in let l : 458923 ≡ length (a .out .now) = search needs in le-trans (room-enough (a .file .now) _ (t .1) (t .2)) (le-of-eq l))
-    (λ c. let a = c .before .before .before .before .before .args in let t = cut (a .file .now) _ (c .before .before .before .shorter .ensures) in let e = rw (t .0) at (c .put-lines .ensures) in (e .0, (e .1 .0, ((e .1 .1, sym (length-take-le _ (c .put-lines .last .0) (e .1 .1))), sample-holds)))))
+    (λ c. let a = c .before .before .before .before .args in let t = cut (a .file .now) _ (c .before .before .counted .ensures) in sym (length-take-le _ (a .file .now) (t .1)))
+    (λ c κs. let a = c .before .before .before .before .args in let t = cut (a .file .now) _ (c .before .before .counted .ensures) in let l : 458923 ≡ length (a .out .now) = search needs in le-trans (room-enough (a .file .now) _ (t .1) (t .2)) (le-of-eq l))
+    (λ c. let a = c .before .before .before .before .before .args in let t = cut (a .file .now) _ (c .before .before .before .counted .ensures) in let e = rw (t .0) at (c .put-lines .ensures) in (e .0, (e .1 .0, ((e .1 .1, sym (length-take-le _ (c .put-lines .last .0) (e .1 .1))), (bounds, sample-holds))))))
