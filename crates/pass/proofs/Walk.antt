@@ -5,7 +5,7 @@ use mathlib.Core.Logic.{_⊎_, inl, inr}
 use mathlib.Core.Bool.{Bool, true, false, cond, false≢true}
 use mathlib.Core.List.{List, [], _∷_, _++_, map}
 use Prim.Native.Nat.{ℕ, zero, suc, _+_, _<_, _≤_}
-use native.Mathlib.Nat.{add-zero, le-trans, le-of-lt, le-of-suc-le-suc, not-suc-le-zero}
+use native.Mathlib.Nat.{add-zero, le-trans, lt-of-lt-of-le, le-of-lt, le-of-suc-le-suc, not-suc-le-zero}
 use native.Mathlib.Omega.{arith}
 use lib.Dec.{leb, ltb}
 use lib.ListN.{length, getD}
@@ -169,6 +169,14 @@ size : (w : Walk) (rs : List Relocation) → length (walk w rs .section) ≡ len
 size w [] = refl
 size w (r ∷ rs) = size (stepped w r) rs ∙ sized (w .pass) (w .section) r (answer w r) (sound w r)
 
+-- a byte below them all lies in none
+below : (i b : ℕ) (xs : List Part) → i < b → Apart b xs → Outside i xs
+below i b [] l h = tt
+below i b (x ∷ xs) l h = (inl (lt-of-lt-of-le l (h .0)), below i (x .to) xs (lt-of-lt-of-le l (le-trans (h .0) (le-of-lt (h .1)))) (h .2))
+
+settled : (w : Walk) (rs : List Relocation) (i : ℕ) → i < w .pass .window → getD (walk w rs .section) i 0 ≡ getD (w .section) i 0
+settled w rs i l = held w rs i (below i (w .pass .window) (parts w rs) l (apart w rs))
+
 -- ---- a chain of windows, each past the one before it, has no two that overlap
 
 low : Part
@@ -198,5 +206,6 @@ walks =
       no-overlap = λ w rs i j l g. pairwise (w .pass .window) (parts w rs) i j (apart w rs) l g;
       inside = inside;
       kept = held;
+      settled = settled;
       size = size;
     }

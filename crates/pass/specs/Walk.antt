@@ -112,4 +112,6 @@ pub record Walks : Type 0 where
   pub inside : (w : Walk) (rs : List Relocation) → Inside (length (w .section)) (parts w rs)
   -- a byte outside all windows is as it was
   pub kept : (w : Walk) (rs : List Relocation) (i : ℕ) → Outside i (parts w rs) → getD (walk w rs .section) i 0 ≡ getD (w .section) i 0
+  -- a byte before the last window's end is final: what relaxing a record wrote stays as it is
+  pub settled : (w : Walk) (rs : List Relocation) (i : ℕ) → i < w .pass .window → getD (walk w rs .section) i 0 ≡ getD (w .section) i 0
   pub size : (w : Walk) (rs : List Relocation) → length (walk w rs .section) ≡ length (w .section)
