@@ -1,6 +1,7 @@
 //! Times the port against wild's Rust: one driver, the same inputs, both called through a pointer
 //! to an `extern "C"` function. Buffers aren't cleared between calls. No figure passes or fails.
 
+mod real;
 mod relaxing;
 
 use differential::KNOWN_TYPES;
@@ -78,10 +79,13 @@ fn main() {
         time_padding(length);
     }
     relaxing::time_all(&mut random);
+    for archive in std::env::args().skip(1) {
+        real::time_archive(&archive);
+    }
 }
 
 fn time_lookup(name: &str, types: &[u32]) {
-    let port = || elapsed(|| look_up(port::jitamoro_relocation_from_raw, types));
+    let port = || elapsed(|| look_up(jitamoro::sys::jitamoro_relocation_from_raw, types));
     let rust = || elapsed(|| look_up(rust_relocation_from_raw, types));
     time(name, types.len(), port, rust);
 }
@@ -94,7 +98,7 @@ fn look_up<T>(function: extern "C" fn(u32) -> T, types: &[u32]) {
 }
 
 fn time_plt(name: &str, pairs: &[(u64, u64)]) {
-    let port = || elapsed(|| write_entries(port::jitamoro_write_plt_entry, pairs));
+    let port = || elapsed(|| write_entries(jitamoro::sys::jitamoro_write_plt_entry, pairs));
     let rust = || elapsed(|| write_entries(rust_write_plt_entry, pairs));
     time(name, pairs.len(), port, rust);
 }
@@ -111,7 +115,7 @@ fn write_entries(function: WritePltEntry, pairs: &[(u64, u64)]) {
 
 fn time_padding(length: usize) {
     let calls = INPUTS / (1 + length / 64);
-    let port = || elapsed(|| fill(port::jitamoro_fill_section_padding, length, calls));
+    let port = || elapsed(|| fill(jitamoro::sys::jitamoro_fill_section_padding, length, calls));
     let rust = || elapsed(|| fill(rust_fill_section_padding, length, calls));
     time(&format!("padding, {length} bytes"), calls, port, rust);
 }

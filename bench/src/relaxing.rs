@@ -13,6 +13,7 @@ use differential::relaxation::Record;
 use differential::relaxation::SECTION_LIMIT;
 use differential::sequences::SEQUENCES;
 use differential::sequences::Sequence;
+use jitamoro::sys::MovedAnswer;
 use libwild::oracle;
 use libwild::oracle::OutputKind;
 use libwild::oracle::Relaxation;
@@ -20,7 +21,6 @@ use libwild::oracle::RelaxationKind;
 use libwild::oracle::RelocationKind;
 use libwild::oracle::RelocationModifier;
 use libwild::oracle::ValueFlags;
-use port::MovedAnswer;
 use std::cell::RefCell;
 use std::hint::black_box;
 use std::slice;
@@ -201,7 +201,7 @@ fn cases() -> Vec<Case> {
 
 /// Records with their sections: each in a short one of its own, or all in one of the greatest
 /// length.
-struct Pool {
+pub struct Pool {
     bytes: Vec<u8>,
     /// Where the records' bytes begin, and what they hold before a pass.
     first: usize,
@@ -209,19 +209,35 @@ struct Pool {
     inputs: Vec<Input>,
 }
 
-struct Input {
-    start: usize,
-    length: usize,
-    record: Record,
+pub struct Input {
+    pub start: usize,
+    pub length: usize,
+    pub record: Record,
     kind: (u8, u8),
-    wild: Wild,
+    pub wild: Wild,
 }
 
 /// What of a record wild is given in types of its own.
-struct Wild {
-    flags: ValueFlags,
-    output_kind: OutputKind,
+pub struct Wild {
+    pub flags: ValueFlags,
+    pub output_kind: OutputKind,
     kind: RelaxationKind,
+}
+
+impl Input {
+    fn new(start: usize, length: usize, record: Record, kind: (u8, u8)) -> Self {
+        Self {
+            start,
+            length,
+            record,
+            kind,
+            wild: Wild {
+                flags: ValueFlags::from_number(record.flags).unwrap(),
+                output_kind: OutputKind::from_number(record.output_kind).unwrap(),
+                kind: relaxation::relaxation_kind(kind.0, kind.1).unwrap(),
+            },
+        }
+    }
 }
 
 impl Pool {
@@ -234,6 +250,24 @@ impl Pool {
         let first = SECTION_LIMIT / 2;
         let place = |record: usize| (0, SECTION_LIMIT, first + record * SHARE + OFFSET);
         Self::new(cases, SECTION_LIMIT, first, place)
+    }
+
+    /// Sections with their records, one section after the other.
+    pub fn real(sections: &[(&[u8], Vec<Record>)]) -> Self {
+        let mut before = Vec::new();
+        let mut inputs = Vec::new();
+        for (bytes, records) in sections {
+            let (start, length) = (before.len(), bytes.len());
+            before.extend_from_slice(bytes);
+            let input = |&record| Input::new(start, length, record, (0, 0));
+            inputs.extend(records.iter().map(input));
+        }
+        Self {
+            bytes: vec![0; before.len()],
+            first: 0,
+            before,
+            inputs,
+        }
     }
 
     /// `place` gives a record's section, by its start and length, and the offset in it.
@@ -251,17 +285,7 @@ impl Pool {
             let mut record = case.record;
             record.offset = offset as u64;
             let kind = case.chosen.unwrap_or_default();
-            inputs.push(Input {
-                start,
-                length,
-                record,
-                kind,
-                wild: Wild {
-                    flags: ValueFlags::from_number(record.flags).unwrap(),
-                    output_kind: OutputKind::from_number(record.output_kind).unwrap(),
-                    kind: relaxation::relaxation_kind(kind.0, kind.1).unwrap(),
-                },
-            });
+            inputs.push(Input::new(start, length, record, kind));
         }
         Self {
             bytes: vec![0; length],
@@ -273,20 +297,30 @@ impl Pool {
 
     /// The time of the calls alone.
     fn run(&mut self, call: impl Fn(&Input, *mut u8)) -> Duration {
+        self.run_all(|inputs, bytes| {
+            let bytes = bytes.as_mut_ptr();
+            for input in inputs {
+                // SAFETY: the section starts inside the bytes.
+                call(input, unsafe { bytes.add(input.start) });
+            }
+        })
+    }
+
+    /// The time of the walks alone, each over all inputs and bytes.
+    pub fn run_all(&mut self, walk: impl Fn(&[Input], &mut [u8])) -> Duration {
         let shares = self.first..self.first + self.before.len();
         let pass = |_| {
             self.bytes[shares.clone()].copy_from_slice(&self.before);
-            let bytes = self.bytes.as_mut_ptr();
-            let time = elapsed(|| {
-                for input in &self.inputs {
-                    // SAFETY: the section starts inside the bytes.
-                    call(input, unsafe { bytes.add(input.start) });
-                }
-            });
+            let time = elapsed(|| walk(&self.inputs, &mut self.bytes));
             black_box(&mut self.bytes);
             time
         };
         (0..PASSES).map(pass).sum()
+    }
+
+    /// The calls of a round.
+    pub fn calls(&self) -> usize {
+        self.inputs.len() * PASSES
     }
 }
 
@@ -326,12 +360,22 @@ fn types(input: &Input) -> (ValueFlags, OutputKind) {
 }
 
 fn port_relax_all(pool: &RefCell<Pool>) -> Duration {
-    ask_all(port::jitamoro_relax, |section| section, numbers, pool)
+    ask_all(
+        jitamoro::sys::jitamoro_relax,
+        |section| section,
+        numbers,
+        pool,
+    )
 }
 
 fn port_choose_all(pool: &RefCell<Pool>) -> Duration {
     let pointer = |section: *mut u8| section.cast_const();
-    ask_all(port::jitamoro_new_relaxation, pointer, numbers, pool)
+    ask_all(
+        jitamoro::sys::jitamoro_new_relaxation,
+        pointer,
+        numbers,
+        pool,
+    )
 }
 
 fn rust_choose_all(pool: &RefCell<Pool>) -> Duration {
@@ -341,7 +385,7 @@ fn rust_choose_all(pool: &RefCell<Pool>) -> Duration {
 
 fn port_apply_all(pool: &RefCell<Pool>) -> Duration {
     type Apply = unsafe extern "C" fn(u8, u8, *mut u8, usize, u64, i64) -> MovedAnswer;
-    let function = black_box(port::jitamoro_apply as Apply);
+    let function = black_box(jitamoro::sys::jitamoro_apply as Apply);
     pool.borrow_mut().run(|input, section| {
         let (kind, inst_offset) = input.kind;
         let (offset, addend) = (input.record.offset, input.record.addend);
@@ -361,10 +405,18 @@ fn rust_apply_all(pool: &RefCell<Pool>) -> Duration {
     })
 }
 
-fn time_relax(name: &str, pool: &RefCell<Pool>) {
+pub fn time_relax(name: &str, pool: &RefCell<Pool>) {
     let port = || port_relax_all(pool);
     let rust = || ask_all(rust_relax, |section| section, types, pool);
-    time(name, RECORDS * PASSES, port, rust);
+    let calls = pool.borrow().calls();
+    time(name, calls, port, rust);
+}
+
+pub fn time_choose(name: &str, pool: &RefCell<Pool>) {
+    let port = || port_choose_all(pool);
+    let rust = || rust_choose_all(pool);
+    let calls = pool.borrow().calls();
+    time(name, calls, port, rust);
 }
 
 pub fn time_all(random: &mut Random) {
@@ -401,9 +453,7 @@ fn time_mix(mix: &[Case]) {
     let calls = RECORDS * PASSES;
     let short = &RefCell::new(Pool::short(mix));
     time_relax("relax, mix of kinds", short);
-    let port = || port_choose_all(short);
-    let rust = || rust_choose_all(short);
-    time("choose, mix of kinds", calls, port, rust);
+    time_choose("choose, mix of kinds", short);
     let port = || port_apply_all(short);
     let rust = || rust_apply_all(short);
     time("apply, mix of kinds", calls, port, rust);

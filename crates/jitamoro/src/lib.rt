@@ -1,6 +1,6 @@
-// The port's functions for C and Rust to call. Every function takes any arguments; a `&mut [u8]`
-// is passed as a pointer and a length. In an answer `refusal` is 0, or a refusal's number of
-// document 01, and then every other field is 0.
+// libjitamoro.a: the port's functions for C and Rust to call; include/jitamoro.h says the same in C. Each takes
+// any arguments; a slice is passed as a pointer and a length. In an answer a refusal is 0, or a number of document
+// 01, and then every other field is 0. A refusal changes nothing that was lent, but a PLT buffer under 9.
 ghost use mathlib.Core.Path.{_≡_};
 ghost use mathlib.Core.Bool.{cond};
 ghost use lib.ListN.{length};
@@ -8,63 +8,160 @@ ghost use Rattle.rules.specs.Record.{outputKind, flagNumber};
 ghost use Rattle.rules.specs.Range.{contains, within, unchecked};
 ghost use Rattle.rules.specs.Types.{lookup, dynamicType};
 ghost use Rattle.rules.specs.Plt.{pltAnswer, pltBytes, padding};
-ghost use Rattle.rules.specs.Rewrite.{relaxing, afterRelaxing};
-ghost use Rattle.jitamoro.specs.Layout.{outputLayout, flagsLayout, relocationLayout, infoLayout, refusalNumber};
-ghost use Rattle.jitamoro.specs.Relaxing.{relaxedNot, doneLayout, relaxedLayout, KeepsMeaning};
-use elf::AllowedRange;
-use elf::DynamicRelocationKind;
-use elf::RelocationKindInfo;
+ghost use Rattle.rules.specs.Choose.{choosing};
+ghost use Rattle.rules.specs.Rewrite.{rewriting, afterRewriting, relaxing, afterRelaxing};
+ghost use Rattle.relaxation_kind.specs.Kind.{numbered};
+ghost use Rattle.pass.specs.Pass.{relocation, freshPass, stepping, passAfter, bytesAfter, ending, endedPass};
+ghost use Rattle.table_answers.specs.Layout.{outputLayout, flagsLayout, relocationLayout};
+ghost use Rattle.record_answers.specs.Layout.{choiceLayout, movedLayout, relaxedLayout, KeepsMeaning};
+ghost use Rattle.pass_answers.specs.Layout.{stepLayout, endLayout};
+ghost use Rattle.jitamoro.specs.Refusal.{refusalNumber};
 use elf_x86_64::PltEntry;
-use jitamoro_alone::ChoiceAnswer;
-use output_kind::OutputKind;
-use output_kind::OutputKindFound;
-use relax::Relaxed;
-use relaxation::Relaxation;
-use rewriting::Moved;
-use value_flags::ValueFlags;
-use value_flags::ValueFlagsFound;
-use x86_64::RelocationFound;
+use pass::Pass;
+use pass_answers::EndAnswer;
+use pass_answers::StepAnswer;
+use record_answers::ChoiceAnswer;
+use record_answers::MovedAnswer;
+use record_answers::RelaxedAnswer;
+use relaxation_kind::RelaxationKind;
+use table_answers::OutputKindAnswer;
+use table_answers::RelocationAnswer;
+use table_answers::ValueFlagsAnswer;
 
-#[repr(C)]
-pub struct OutputKindAnswer {
-    pub refusal: u8,
-    pub is_executable: bool,
-    pub is_static_executable: bool,
-    pub is_position_independent: bool,
-    pub has_fixed_load_address: bool,
+// ---- One record
+
+// Relaxes one record in its section. Refusals 1, 2, 3, 4, 6. Its contract ends with demand 3, same
+// meaning, of what the call did.
+#[no_mangle]
+pub extern "C" fn jitamoro_relax(
+    r_type: u32,
+    section: &mut [u8],
+    offset: u64,
+    flags: u8,
+    output_kind: u8,
+    executable: bool,
+    address: u64,
+    addend: i64,
+) -> RelaxedAnswer
+    ensures { λ r. ⌜ r ≡ relaxedLayout (relaxing (now (section .entry)) offset flags «output_kind» address addend «r_type» executable) ⌝ }
+    ensures { λ _. ⌜ now (section .exit) ≡ afterRelaxing (now (section .entry)) (relaxing (now (section .entry)) offset flags «output_kind» address addend «r_type» executable) ⌝ }
+    ensures { λ r. ⌜ KeepsMeaning «r_type» (now (section .entry)) offset r (now (section .exit)) ⌝ }
+{
+    let relaxed = quick::relax(
+        r_type,
+        section,
+        offset,
+        flags,
+        output_kind,
+        executable,
+        address,
+        addend,
+    );
+    record_answers::relaxed_answer(relaxed)
 }
+
+// Chooses a relaxation for one record. Refusals 1, 2, 3, 4.
+#[no_mangle]
+pub extern "C" fn jitamoro_new_relaxation(
+    r_type: u32,
+    section: &[u8],
+    offset: u64,
+    flags: u8,
+    output_kind: u8,
+    executable: bool,
+    address: u64,
+    addend: i64,
+) -> ChoiceAnswer
+    ensures { λ r. ⌜ r ≡ choiceLayout (choosing (now (section .entry)) offset flags «output_kind» address addend «r_type» executable) ⌝ }
+{
+    let choice = quick::new_relaxation(
+        r_type,
+        section,
+        offset,
+        flags,
+        output_kind,
+        executable,
+        address,
+        addend,
+    );
+    record_answers::choice_answer(choice)
+}
+
+// Rewrites by a kind, whatever was chosen. Refusals 1, 2, 5, 6; 5 too where there is no such kind.
+#[no_mangle]
+pub extern "C" fn jitamoro_apply(
+    kind: u8,
+    inst_offset: u8,
+    section: &mut [u8],
+    offset: u64,
+    addend: i64,
+) -> MovedAnswer
+    ensures { λ r. ⌜ r ≡ movedLayout (rewriting (numbered kind «inst_offset») (now (section .entry)) offset addend) ⌝ }
+    ensures { λ _. ⌜ now (section .exit) ≡ afterRewriting (now (section .entry)) (rewriting (numbered kind «inst_offset») (now (section .entry)) offset addend) ⌝ }
+{
+    let relaxation_kind = RelaxationKind::from_number(kind, inst_offset);
+    let applied = rewriting::apply(relaxation_kind, section, offset, addend);
+    record_answers::moved_answer(applied)
+}
+
+// ---- The pass
+
+// A pass before its first record.
+#[no_mangle]
+pub extern "C" fn jitamoro_pass_fresh() -> Pass
+    ensures { λ r. ⌜ r ≡ freshPass ⌝ }
+{
+    Pass::fresh()
+}
+
+// Takes one record. Refusals 21, 1, 2, 3, 4, 22, 6, 23, which change nothing. Its contract ends with
+// demand 3, same meaning, of what the step did.
+#[no_mangle]
+pub extern "C" fn jitamoro_pass_step(
+    pass: Pass,
+    r_type: u32,
+    section: &mut [u8],
+    offset: u64,
+    flags: u8,
+    output_kind: u8,
+    executable: bool,
+    address: u64,
+    addend: i64,
+) -> StepAnswer
+    ensures { λ r. ⌜ r ≡ stepLayout (passAfter pass offset (stepping pass (now (section .entry)) (relocation offset flags «output_kind» address addend «r_type» executable))) (stepping pass (now (section .entry)) (relocation offset flags «output_kind» address addend «r_type» executable)) ⌝ }
+    ensures { λ _. ⌜ now (section .exit) ≡ bytesAfter (now (section .entry)) (stepping pass (now (section .entry)) (relocation offset flags «output_kind» address addend «r_type» executable)) ⌝ }
+    ensures { λ r. ⌜ KeepsMeaning «r_type» (now (section .entry)) offset (r .relaxed) (now (section .exit)) ⌝ }
+{
+    let stepped = pass.step(
+        r_type,
+        section,
+        offset,
+        flags,
+        output_kind,
+        executable,
+        address,
+        addend,
+    );
+    pass_answers::step_answer(stepped)
+}
+
+// Ends a pass: 0, or refusal 21 or 24, which change nothing.
+#[no_mangle]
+pub extern "C" fn jitamoro_pass_end(pass: Pass) -> EndAnswer
+    ensures { λ r. ⌜ r ≡ endLayout (endedPass pass (ending pass)) (ending pass) ⌝ }
+{
+    let ended = pass.end();
+    pass_answers::end_answer(ended)
+}
+
+// ---- Tables
 
 // What the rules ask of an output kind. Refusal 4.
 #[no_mangle]
 pub extern "C" fn jitamoro_output_kind(number: u8) -> OutputKindAnswer
     ensures { λ r. ⌜ r ≡ outputLayout (outputKind number) ⌝ }
 {
-    match OutputKind::from_number(number) {
-        OutputKindFound::Is(kind) => OutputKindAnswer {
-            refusal: 0,
-            is_executable: kind.is_executable(),
-            is_static_executable: kind.is_static_executable(),
-            is_position_independent: kind.is_position_independent(),
-            has_fixed_load_address: kind.has_fixed_load_address(),
-        },
-        OutputKindFound::Refused(n) => OutputKindAnswer {
-            refusal: n,
-            is_executable: false,
-            is_static_executable: false,
-            is_position_independent: false,
-            has_fixed_load_address: false,
-        },
-    }
-}
-
-#[repr(C)]
-pub struct ValueFlagsAnswer {
-    pub refusal: u8,
-    pub is_dynamic: bool,
-    pub is_ifunc: bool,
-    pub has_link_time_address: bool,
-    pub is_absolute: bool,
-    pub is_interposable: bool,
+    table_answers::output_kind_answer(number)
 }
 
 // What the rules ask of a flag number. Refusal 3.
@@ -72,41 +169,7 @@ pub struct ValueFlagsAnswer {
 pub extern "C" fn jitamoro_value_flags(number: u8) -> ValueFlagsAnswer
     ensures { λ r. ⌜ r ≡ flagsLayout (flagNumber number) ⌝ }
 {
-    match ValueFlags::from_number(number) {
-        ValueFlagsFound::Is(flags) => ValueFlagsAnswer {
-            refusal: 0,
-            is_dynamic: flags.is_dynamic(),
-            is_ifunc: flags.is_ifunc(),
-            has_link_time_address: flags.has_link_time_address(),
-            is_absolute: flags.is_absolute(),
-            is_interposable: flags.is_interposable(),
-        },
-        ValueFlagsFound::Refused(n) => ValueFlagsAnswer {
-            refusal: n,
-            is_dynamic: false,
-            is_ifunc: false,
-            has_link_time_address: false,
-            is_absolute: false,
-            is_interposable: false,
-        },
-    }
-}
-
-// `kind` is the kind's place among the sixteen of RelocationKind. Where `checked` is false every
-// value is allowed, and `min` and `max` are 0.
-#[repr(C)]
-pub struct RelocationAnswer {
-    pub refusal: u8,
-    pub kind: u8,
-    pub size: u8,
-    pub checked: bool,
-    pub mask: bool,
-    pub bias: bool,
-    pub thunkable: bool,
-    pub implicit_addend: bool,
-    pub alignment: u8,
-    pub min: i64,
-    pub max: i64,
+    table_answers::value_flags_answer(number)
 }
 
 // The row of a relocation type. Refusal 7.
@@ -114,42 +177,7 @@ pub struct RelocationAnswer {
 pub extern "C" fn jitamoro_relocation_from_raw(r_type: u32) -> RelocationAnswer
     ensures { λ r. ⌜ r ≡ relocationLayout (lookup «r_type») ⌝ }
 {
-    match x86_64::relocation_from_raw(r_type) {
-        RelocationFound::Is(info) => relocation_answer(info),
-        RelocationFound::Refused(n) => RelocationAnswer {
-            refusal: n,
-            kind: 0,
-            size: 0,
-            checked: false,
-            mask: false,
-            alignment: 0,
-            bias: false,
-            thunkable: false,
-            implicit_addend: false,
-            min: 0,
-            max: 0,
-        },
-    }
-}
-
-fn relocation_answer(info: RelocationKindInfo) -> RelocationAnswer
-    ensures { λ r. ⌜ r ≡ infoLayout info ⌝ }
-{
-    let kind = info.kind;
-    let range = info.range;
-    RelocationAnswer {
-        refusal: 0,
-        kind: kind.number(),
-        size: info.size.byte_size,
-        checked: range.checked,
-        mask: info.mask,
-        alignment: info.alignment,
-        bias: info.bias,
-        thunkable: info.thunkable,
-        implicit_addend: info.implicit_addend,
-        min: range.min,
-        max: range.max,
-    }
+    table_answers::relocation_answer(r_type)
 }
 
 // Whether min ≤ value < max, or any value where the range isn't checked.
@@ -162,10 +190,7 @@ pub extern "C" fn jitamoro_allowed_range_contains(
 ) -> bool
     ensures { λ r. ⌜ r ≡ contains (cond checked (within min max) unchecked) value ⌝ }
 {
-    if checked {
-        return AllowedRange::new(min, max).contains(value);
-    }
-    AllowedRange::no_check().contains(value)
+    table_answers::range_contains(checked, min, max, value)
 }
 
 // The dynamic relocation type of a kind, by its place among the ten of DynamicRelocationKind, or 0
@@ -174,20 +199,10 @@ pub extern "C" fn jitamoro_allowed_range_contains(
 pub extern "C" fn jitamoro_x86_64_r_type(kind: u32) -> u32
     ensures { λ r. ⌜ r ≡ dynamicType kind ⌝ }
 {
-    match kind {
-        0 => DynamicRelocationKind::Copy.x86_64_r_type(),
-        1 => DynamicRelocationKind::Irelative.x86_64_r_type(),
-        2 => DynamicRelocationKind::DtpMod.x86_64_r_type(),
-        3 => DynamicRelocationKind::DtpOff.x86_64_r_type(),
-        4 => DynamicRelocationKind::TlsDesc.x86_64_r_type(),
-        5 => DynamicRelocationKind::TpOff.x86_64_r_type(),
-        6 => DynamicRelocationKind::Relative.x86_64_r_type(),
-        7 => DynamicRelocationKind::Absolute.x86_64_r_type(),
-        8 => DynamicRelocationKind::GotEntry.x86_64_r_type(),
-        9 => DynamicRelocationKind::JumpSlot.x86_64_r_type(),
-        _ => 0,
-    }
+    table_answers::dynamic_type(kind)
 }
+
+// ---- PLT entries and padding
 
 // Writes a PLT entry of 16 bytes: 0, or refusal 8 (nothing changed) or 9 (the blank template).
 #[no_mangle]
@@ -211,69 +226,4 @@ pub extern "C" fn jitamoro_fill_section_padding(buf: &mut [u8], executable: bool
     ensures { λ _. ⌜ now (buf .exit) ≡ padding executable (length (now (buf .entry))) ⌝ }
 {
     elf_x86_64::fill_section_padding(buf, executable);
-}
-
-// ---- Relaxing
-
-// A choice that was carried out, with where the field lies now. Refusals stand in the choice.
-#[repr(C)]
-pub struct RelaxedAnswer {
-    pub choice: ChoiceAnswer,
-    pub offset: u64,
-    pub addend: i64,
-}
-
-// Relaxes one record in its section. Refusals 1, 2, 3, 4, 6. Its contract ends with demand 3, same
-// meaning, of what the call did.
-#[no_mangle]
-pub extern "C" fn jitamoro_relax(
-    r_type: u32,
-    section: &mut [u8],
-    offset: u64,
-    flags: u8,
-    output_kind: u8,
-    executable: bool,
-    address: u64,
-    addend: i64,
-) -> RelaxedAnswer
-    ensures { λ r. ⌜ r ≡ relaxedLayout (relaxing (now (section .entry)) offset flags «output_kind» address addend «r_type» executable) ⌝ }
-    ensures { λ _. ⌜ now (section .exit) ≡ afterRelaxing (now (section .entry)) (relaxing (now (section .entry)) offset flags «output_kind» address addend «r_type» executable) ⌝ }
-    ensures { λ r. ⌜ KeepsMeaning «r_type» (now (section .entry)) offset r (now (section .exit)) ⌝ }
-{
-    match relax::relax(
-        r_type,
-        section,
-        offset,
-        flags,
-        output_kind,
-        executable,
-        address,
-        addend,
-    ) {
-        Relaxed::Nothing => not_relaxed(0),
-        Relaxed::Done(relaxation, moved) => relaxed_answer(relaxation, moved),
-        Relaxed::Refused(n) => not_relaxed(n),
-    }
-}
-
-// What was chosen and carried out.
-pub fn relaxed_answer(relaxation: Relaxation, moved: Moved) -> RelaxedAnswer
-    ensures { λ r. ⌜ r ≡ doneLayout relaxation moved ⌝ }
-{
-    RelaxedAnswer {
-        choice: jitamoro_alone::choice_answer(relaxation),
-        offset: moved.offset,
-        addend: moved.addend,
-    }
-}
-
-// None, or a refusal.
-pub fn not_relaxed(refusal: u8) -> RelaxedAnswer
-    ensures { λ r. ⌜ r ≡ relaxedNot refusal ⌝ }
-{
-    RelaxedAnswer {
-        choice: jitamoro_alone::not_chosen(refusal),
-        offset: 0,
-        addend: 0,
-    }
 }

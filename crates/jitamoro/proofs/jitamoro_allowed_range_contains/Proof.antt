@@ -1,9 +1,8 @@
--- `jitamoro_allowed_range_contains` meets its contract: from the contracts of the range that it makes.
+-- `jitamoro_allowed_range_contains` meets its contract: what the range answers.
 -- Assumes nothing.
-use borrow.Author.Needs.{needs}
-use mathlib.Core.Path.{_∙_}
-use mir.Syntax.{w64}
 use mir.Facts.{toZ-ofZ}
+use mir.Syntax.{w64}
+use borrow.Author.Needs.{needs}
 use Rattle.jitamoro.proofs.jitamoro_allowed_range_contains.Statement.{statement}
 use Rattle.jitamoro.proofs.jitamoro_allowed_range_contains.Tie as tie
 
@@ -12,8 +11,4 @@ jitamoro-allowed-range-contains-spec =
     tie.close
     (tie.spec
     (λ c κs. search needs)
-    (λ c κs. search needs)
-    (λ c. c .contains .ensures ∙ rw (c .before .new .ensures, toZ-ofZ {w = w64} (c .before .before .before .fits .min), toZ-ofZ {w = w64} (c .before .before .before .fits .max), toZ-ofZ {w = w64} (c .before .before .before .fits .value), c .before .before .if1 .taken))
-    (λ c κs. search needs)
-    (λ c κs. search needs)
-    (λ c. c .contains2 .ensures ∙ rw (c .before .no-check .ensures, c .before .before .if1 .left)))
+    (λ c. rw (toZ-ofZ {w = w64} (c .before .fits .min), toZ-ofZ {w = w64} (c .before .fits .max), toZ-ofZ {w = w64} (c .before .fits .value)) at (c .range-contains .ensures)))

@@ -3,7 +3,7 @@
 
 use crate::relaxation;
 use crate::relaxation::Record;
-use port::RelaxedAnswer;
+use jitamoro::sys::RelaxedAnswer;
 
 pub const MARK: [u8; 2] = [0x52, 0x58];
 /// The bytes of a record before its section, and where some of them stand.

@@ -3,11 +3,11 @@
 use crate::relaxation;
 use crate::relaxation::REX_ADD;
 use crate::relaxation::Record;
-use port::ChoiceAnswer;
-use port::EndAnswer;
-use port::Pass;
-use port::RelaxedAnswer;
-use port::StepAnswer;
+use jitamoro::sys::ChoiceAnswer;
+use jitamoro::sys::EndAnswer;
+use jitamoro::sys::Pass;
+use jitamoro::sys::RelaxedAnswer;
+use jitamoro::sys::StepAnswer;
 
 /// Where each kind's window begins and ends, from the offset, in the order of the kinds.
 const WINDOWS: [(i64, i64); 19] = [

@@ -8,9 +8,9 @@ use libwild::oracle::RelaxationKind;
 use libwild::oracle::RelocationKindInfo;
 use libwild::oracle::RelocationModifier;
 use libwild::oracle::ValueFlags;
-use port::ChoiceAnswer;
-use port::MovedAnswer;
-use port::RelaxedAnswer;
+use jitamoro::sys::ChoiceAnswer;
+use jitamoro::sys::MovedAnswer;
+use jitamoro::sys::RelaxedAnswer;
 use std::panic;
 use std::panic::AssertUnwindSafe;
 

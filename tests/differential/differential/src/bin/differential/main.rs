@@ -16,9 +16,9 @@ use differential::byte_size;
 use differential::kind_number;
 use libwild::oracle;
 use libwild::oracle::AllowedRange;
-use port::OutputKindAnswer;
-use port::RelocationAnswer;
-use port::ValueFlagsAnswer;
+use jitamoro::sys::OutputKindAnswer;
+use jitamoro::sys::RelocationAnswer;
+use jitamoro::sys::ValueFlagsAnswer;
 use std::fmt::Debug;
 use std::process::ExitCode;
 use tally::Tally;
@@ -123,7 +123,7 @@ impl Comparison {
     }
 
     fn lookup_of(&mut self, r_type: u32) {
-        let port = port::jitamoro_relocation_from_raw(r_type);
+        let port = jitamoro::sys::jitamoro_relocation_from_raw(r_type);
         self.compare(port, rust_lookup(r_type), || format!("lookup of {r_type}"));
     }
 
@@ -131,7 +131,7 @@ impl Comparison {
         let powers = [7, 8, 15, 16, 31, 32, 63].map(|bit| 1i64 << bit);
         let mut listed = 0;
         for r_type in KNOWN_TYPES {
-            let row = port::jitamoro_relocation_from_raw(r_type);
+            let row = jitamoro::sys::jitamoro_relocation_from_raw(r_type);
             let range = oracle::relocation_from_raw(r_type).unwrap().range;
             let centres = [0, range.min, range.max].into_iter();
             let centres = centres.chain(powers.into_iter().flat_map(|p| [p, p.wrapping_neg()]));
@@ -140,7 +140,7 @@ impl Comparison {
                 let random = || self.random.signed(64);
                 let value = edges.get(index).copied().unwrap_or_else(random);
                 let port =
-                    port::jitamoro_allowed_range_contains(row.checked, row.min, row.max, value);
+                    jitamoro::sys::jitamoro_allowed_range_contains(row.checked, row.min, row.max, value);
                 let mut rust = range.contains(value);
                 // The one listed difference: the Rust's unchecked range ends before i64::MAX.
                 if range == AllowedRange::no_check() && value == i64::MAX {
@@ -156,7 +156,7 @@ impl Comparison {
 
     fn dynamic_types(&mut self) {
         for number in (0..=300).chain([1 << 8, 1 << 16, 1 << 31, u32::MAX]) {
-            let port = port::jitamoro_x86_64_r_type(number);
+            let port = jitamoro::sys::jitamoro_x86_64_r_type(number);
             let kind = DYNAMIC_KINDS.get(number as usize);
             let rust = kind.map_or(0, |&kind| oracle::x86_64_r_type(kind));
             self.compare(port, rust, || format!("dynamic type of kind {number}"));
@@ -165,7 +165,7 @@ impl Comparison {
 
     fn output_kinds(&mut self) {
         for number in 0..=255 {
-            let port = port::jitamoro_output_kind(number);
+            let port = jitamoro::sys::jitamoro_output_kind(number);
             self.compare(port, rust_output_kind(number), || {
                 format!("output kind {number}")
             });
@@ -174,7 +174,7 @@ impl Comparison {
 
     fn value_flags(&mut self) {
         for number in 0..=255 {
-            let port = port::jitamoro_value_flags(number);
+            let port = jitamoro::sys::jitamoro_value_flags(number);
             self.compare(port, rust_value_flags(number), || {
                 format!("value flags {number}")
             });
@@ -211,7 +211,7 @@ impl Comparison {
         self.random.fill(&mut before);
         let lent = GUARD..GUARD + length;
         let (mut port, mut rust) = (before, before);
-        let port_answer = port::write_plt_entry(&mut port[lent.clone()], got, plt);
+        let port_answer = jitamoro::sys::write_plt_entry(&mut port[lent.clone()], got, plt);
         let rust_answer = differential::write_plt_entry(&mut rust[lent], got, plt);
         if length != 16 {
             assert_eq!(
@@ -233,7 +233,7 @@ impl Comparison {
                 let mut rust = port;
                 let start = GUARD + self.random.word() as usize % GUARD;
                 let lent = start..start + length;
-                port::fill_section_padding(&mut port[lent.clone()], executable);
+                jitamoro::sys::fill_section_padding(&mut port[lent.clone()], executable);
                 oracle::fill_section_padding(&mut rust[lent], executable);
                 let at = (0..port.len()).find(|&i| port[i] != rust[i]);
                 self.compare(at.map(|i| port[i]), at.map(|i| rust[i]), || {

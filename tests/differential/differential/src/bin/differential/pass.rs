@@ -14,8 +14,8 @@ use differential::pass;
 use differential::relaxation::Record;
 use differential::sequences::SEQUENCES;
 use differential::sequences::Sequence;
-use port::Pass;
-use port::StepAnswer;
+use jitamoro::sys::Pass;
+use jitamoro::sys::StepAnswer;
 
 const LISTS: u64 = 500_000;
 const SINGLE_STEPS: u64 = 4_000_000;
@@ -24,7 +24,7 @@ const MOST_RECORDS: u64 = 40;
 const LONGEST: usize = MOST_RECORDS as usize * 32;
 
 pub fn port_step(pass: Pass, record: &Record, section: &mut [u8]) -> StepAnswer {
-    port::pass_step(
+    jitamoro::sys::pass_step(
         pass,
         record.r_type,
         section,
@@ -82,7 +82,7 @@ impl Comparison {
         let expected = pass::end(before);
         *rust = expected.pass;
         self.tally.pass.count_end(expected.refusal);
-        let answer = port::jitamoro_pass_end(*port);
+        let answer = jitamoro::sys::jitamoro_pass_end(*port);
         *port = answer.pass;
         self.compare(answer, expected, || format!("ending, {before:x?}"));
     }
@@ -107,7 +107,7 @@ impl Comparison {
     fn walk(&mut self, records: &[Record], start: Walk) {
         let differences = self.differences;
         let (mut port, mut rust) = (start.clone(), start);
-        port.pass = port::jitamoro_pass_fresh();
+        port.pass = jitamoro::sys::jitamoro_pass_fresh();
         self.compare(port.pass, rust.pass, || "a fresh pass".to_string());
         for record in records {
             self.step_both(&mut port, &mut rust, record);

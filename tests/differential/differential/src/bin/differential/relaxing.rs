@@ -9,9 +9,9 @@ use differential::relaxation::KIND_NAMES;
 use differential::relaxation::Record;
 use differential::sequences::SEQUENCES;
 use differential::sequences::Sequence;
-use port::ChoiceAnswer;
-use port::MovedAnswer;
-use port::RelaxedAnswer;
+use jitamoro::sys::ChoiceAnswer;
+use jitamoro::sys::MovedAnswer;
+use jitamoro::sys::RelaxedAnswer;
 
 /// The longest of the short sections.
 pub const SHORT: usize = 48;
@@ -40,7 +40,7 @@ impl Section {
 type Ask = fn(&mut Comparison, &Record, &Section);
 
 pub fn port_choose(record: &Record, section: &mut [u8]) -> ChoiceAnswer {
-    port::new_relaxation(
+    jitamoro::sys::new_relaxation(
         record.r_type,
         section,
         record.offset,
@@ -53,7 +53,7 @@ pub fn port_choose(record: &Record, section: &mut [u8]) -> ChoiceAnswer {
 }
 
 pub fn port_relax(record: &Record, section: &mut [u8]) -> RelaxedAnswer {
-    port::relax(
+    jitamoro::sys::relax(
         record.r_type,
         section,
         record.offset,
@@ -107,7 +107,7 @@ impl Comparison {
         let answers = &mut self.tally.rewriting;
         answers.count_rewriting(rust.refusal, kind, inst_offset);
         let mut after = *section;
-        let port = port::apply(kind, inst_offset, after.lent_mut(), offset, addend);
+        let port = jitamoro::sys::apply(kind, inst_offset, after.lent_mut(), offset, addend);
         self.compare((port, &after.bytes), (*rust, &expected.bytes), || {
             let lent = section.lent();
             format!("rewriting, kind {kind}({inst_offset}), {offset:#x}, {addend:#x}, {lent:x?}")

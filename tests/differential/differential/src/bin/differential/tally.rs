@@ -4,8 +4,8 @@ use differential::relaxation;
 use differential::relaxation::KIND_NAMES;
 use differential::relaxation::NO_OP;
 use differential::relaxation::REX_ADD_TO_LEA;
-use port::ChoiceAnswer;
-use port::StepAnswer;
+use jitamoro::sys::ChoiceAnswer;
+use jitamoro::sys::StepAnswer;
 
 /// The answers of one function.
 #[derive(Default)]

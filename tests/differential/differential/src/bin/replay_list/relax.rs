@@ -25,8 +25,8 @@ use differential::relaxation::KIND_NAMES;
 use differential::relaxation::Record;
 use differential::sequences::SEQUENCES;
 use differential::sequences::Sequence;
-use port::ChoiceAnswer;
-use port::RelaxedAnswer;
+use jitamoro::sys::ChoiceAnswer;
+use jitamoro::sys::RelaxedAnswer;
 
 const SEED: u64 = 1;
 const LINE_LENGTH: usize = 140;

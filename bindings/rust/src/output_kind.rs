@@ -1,0 +1,76 @@
+//! output_kind.rs, and the relocation model of args.rs.
+
+use crate::numbered::predicates;
+use crate::refusal::Refusal;
+use crate::refusal::check;
+use crate::sys;
+
+/// Whether an executable's load address is fixed.
+#[derive(Debug, Clone, Copy, PartialEq, Eq, Hash)]
+pub enum RelocationModel {
+    /// The load address is fixed.
+    Fixed,
+    /// The load address isn't known until runtime.
+    PositionIndependent,
+}
+
+/// What is being linked.
+#[derive(Debug, Clone, Copy, PartialEq, Eq, Hash)]
+pub enum OutputKind {
+    /// A static executable.
+    StaticExecutable(RelocationModel),
+    /// A dynamically linked executable.
+    DynamicExecutable(RelocationModel),
+    /// A shared object.
+    SharedObject,
+    /// A relocatable object.
+    PartialLink,
+}
+
+/// The output kinds in the order of their numbers.
+const NUMBERED: [OutputKind; 6] = [
+    OutputKind::StaticExecutable(RelocationModel::Fixed),
+    OutputKind::StaticExecutable(RelocationModel::PositionIndependent),
+    OutputKind::DynamicExecutable(RelocationModel::Fixed),
+    OutputKind::DynamicExecutable(RelocationModel::PositionIndependent),
+    OutputKind::SharedObject,
+    OutputKind::PartialLink,
+];
+
+impl OutputKind {
+    /// The output kind's number, 0 to 5.
+    #[must_use]
+    pub const fn number(self) -> u8 {
+        match self {
+            Self::StaticExecutable(model) => model as u8,
+            Self::DynamicExecutable(model) => 2 + model as u8,
+            Self::SharedObject => 4,
+            Self::PartialLink => 5,
+        }
+    }
+
+    /// The output kind with this number.
+    ///
+    /// # Errors
+    /// [`Refusal::OutputKindNumber`].
+    pub fn from_number(number: u8) -> Result<Self, Refusal> {
+        check(sys::jitamoro_output_kind(number).refusal)?;
+        Ok(NUMBERED[usize::from(number)])
+    }
+
+    fn answer(self) -> sys::OutputKindAnswer {
+        sys::jitamoro_output_kind(self.number())
+    }
+
+    predicates! {
+        /// Whether the output is an executable.
+        is_executable;
+        /// Whether the output is a static executable.
+        is_static_executable;
+        /// Whether the output can be loaded at any address: a shared object or a position-independent
+        /// executable.
+        is_position_independent;
+        /// Whether the output is an executable with a fixed load address.
+        has_fixed_load_address;
+    }
+}

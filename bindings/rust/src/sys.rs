@@ -1,0 +1,273 @@
+//! The exported functions as they are: numbers of document 01, a slice as a pointer and a length. Nothing
+//! checks these declarations against the Rattle source, where each function has its contract.
+//!
+//! In an answer `refusal` is 0 or a refusal's number, and then every other field is 0, but for the pass.
+
+/// The predicates of an output kind. Refusal 4.
+#[derive(Debug, Default, Clone, Copy, PartialEq, Eq)]
+#[repr(C)]
+pub struct OutputKindAnswer {
+    pub refusal: u8,
+    pub is_executable: bool,
+    pub is_static_executable: bool,
+    pub is_position_independent: bool,
+    pub has_fixed_load_address: bool,
+}
+
+/// The predicates of a flag number. Refusal 3.
+#[derive(Debug, Default, Clone, Copy, PartialEq, Eq)]
+#[repr(C)]
+pub struct ValueFlagsAnswer {
+    pub refusal: u8,
+    pub is_dynamic: bool,
+    pub is_ifunc: bool,
+    pub has_link_time_address: bool,
+    pub is_absolute: bool,
+    pub is_interposable: bool,
+}
+
+/// The row of a relocation type. Refusal 7. `kind` counts the sixteen of `RelocationKind`; where `checked`
+/// is false, every value is allowed, and `min` and `max` are 0.
+#[derive(Debug, Default, Clone, Copy, PartialEq, Eq)]
+#[repr(C)]
+pub struct RelocationAnswer {
+    pub refusal: u8,
+    pub kind: u8,
+    pub size: u8,
+    pub checked: bool,
+    pub mask: bool,
+    pub bias: bool,
+    pub thunkable: bool,
+    pub implicit_addend: bool,
+    pub alignment: u8,
+    pub min: i64,
+    pub max: i64,
+}
+
+/// A choice. Refusals 1 to 4. Where `chosen` is false, every field after it is 0.
+#[derive(Debug, Default, Clone, Copy, PartialEq, Eq)]
+#[repr(C)]
+pub struct ChoiceAnswer {
+    pub refusal: u8,
+    pub chosen: bool,
+    pub kind: u8,
+    pub inst_offset: u8,
+    pub mandatory: bool,
+    pub skip_next: bool,
+    pub needs_got_fallback: bool,
+    pub new_type: u32,
+}
+
+/// Where the field lies after rewriting, and its addend. Refusals 1, 2, 5, 6.
+#[derive(Debug, Default, Clone, Copy, PartialEq, Eq)]
+#[repr(C)]
+pub struct MovedAnswer {
+    pub refusal: u8,
+    pub offset: u64,
+    pub addend: i64,
+}
+
+/// A choice that was carried out. Refusals 1 to 4 and 6, in the choice.
+#[derive(Debug, Default, Clone, Copy, PartialEq, Eq)]
+#[repr(C)]
+pub struct RelaxedAnswer {
+    pub choice: ChoiceAnswer,
+    pub offset: u64,
+    pub addend: i64,
+}
+
+/// A pass: the last record's offset, the end of the last window that wasn't empty, whether a skip is
+/// pending, and whether the pass has ended.
+#[derive(Debug, Default, Clone, Copy, PartialEq, Eq)]
+#[repr(C)]
+pub struct Pass {
+    pub last: u64,
+    pub window: u64,
+    pub skip: bool,
+    pub ended: bool,
+}
+
+/// The pass after a step, and what the step did. Refusals 21, 1 to 4, 22, 6, 23, in `relaxed.choice`.
+#[derive(Debug, Default, Clone, Copy, PartialEq, Eq)]
+#[repr(C)]
+pub struct StepAnswer {
+    pub pass: Pass,
+    pub skipped: bool,
+    pub relaxed: RelaxedAnswer,
+}
+
+/// The pass after its end. Refusals 21, 24.
+#[derive(Debug, Default, Clone, Copy, PartialEq, Eq)]
+#[repr(C)]
+pub struct EndAnswer {
+    pub pass: Pass,
+    pub refusal: u8,
+}
+
+// Not bundled: the library is needed where a program is linked, not where this crate is compiled.
+#[link(name = "jitamoro", kind = "static", modifiers = "-bundle")]
+unsafe extern "C" {
+    pub safe fn jitamoro_output_kind(number: u8) -> OutputKindAnswer;
+    pub safe fn jitamoro_value_flags(number: u8) -> ValueFlagsAnswer;
+    pub safe fn jitamoro_relocation_from_raw(r_type: u32) -> RelocationAnswer;
+    pub safe fn jitamoro_allowed_range_contains(
+        checked: bool,
+        min: i64,
+        max: i64,
+        value: i64,
+    ) -> bool;
+    pub safe fn jitamoro_x86_64_r_type(kind: u32) -> u32;
+
+    /// # Safety
+    /// `plt_entry` is valid for reads and writes of `len` bytes.
+    pub fn jitamoro_write_plt_entry(
+        plt_entry: *mut u8,
+        len: usize,
+        got_address: u64,
+        plt_address: u64,
+    ) -> u8;
+
+    /// # Safety
+    /// `buf` is valid for reads and writes of `len` bytes.
+    pub fn jitamoro_fill_section_padding(buf: *mut u8, len: usize, executable: bool);
+
+    /// # Safety
+    /// `section` is valid for reads and writes of `len` bytes.
+    pub fn jitamoro_relax(
+        r_type: u32,
+        section: *mut u8,
+        len: usize,
+        offset: u64,
+        flags: u8,
+        output_kind: u8,
+        executable: bool,
+        address: u64,
+        addend: i64,
+    ) -> RelaxedAnswer;
+
+    /// # Safety
+    /// `section` is valid for reads of `len` bytes.
+    pub fn jitamoro_new_relaxation(
+        r_type: u32,
+        section: *const u8,
+        len: usize,
+        offset: u64,
+        flags: u8,
+        output_kind: u8,
+        executable: bool,
+        address: u64,
+        addend: i64,
+    ) -> ChoiceAnswer;
+
+    /// # Safety
+    /// `section` is valid for reads and writes of `len` bytes.
+    pub fn jitamoro_apply(
+        kind: u8,
+        inst_offset: u8,
+        section: *mut u8,
+        len: usize,
+        offset: u64,
+        addend: i64,
+    ) -> MovedAnswer;
+
+    pub safe fn jitamoro_pass_fresh() -> Pass;
+
+    /// # Safety
+    /// `section` is valid for reads and writes of `len` bytes.
+    pub fn jitamoro_pass_step(
+        pass: Pass,
+        r_type: u32,
+        section: *mut u8,
+        len: usize,
+        offset: u64,
+        flags: u8,
+        output_kind: u8,
+        executable: bool,
+        address: u64,
+        addend: i64,
+    ) -> StepAnswer;
+
+    pub safe fn jitamoro_pass_end(pass: Pass) -> EndAnswer;
+}
+
+/// Safe wrappers: the slice goes as a pointer, which the method in brackets gives, and a length.
+macro_rules! wrappers {
+    ($(
+        $(#[$meta:meta])*
+        fn $name:ident(
+            $($before:ident: $before_type:ty,)*
+            [$pointer:ident] $slice:ident: $slice_type:ty,
+            $($after:ident: $after_type:ty,)*
+        ) $(-> $answer:ty)? = $function:ident;
+    )*) => {$(
+        $(#[$meta])*
+        #[allow(clippy::too_many_arguments)]
+        #[inline]
+        pub fn $name(
+            $($before: $before_type,)*
+            $slice: $slice_type,
+            $($after: $after_type,)*
+        ) $(-> $answer)? {
+            let (start, len) = ($slice.$pointer(), $slice.len());
+            // SAFETY: a slice lent by its pointer and length.
+            unsafe { $function($($before,)* start, len, $($after,)*) }
+        }
+    )*};
+}
+
+/// Wrappers that take a record's numbers with the section among them, after a pass or alone.
+macro_rules! record_wrappers {
+    ($(
+        $(#[$meta:meta])*
+        fn $name:ident($($pass:ident: $pass_type:ty,)? [$pointer:ident] $section_type:ty)
+            -> $answer:ty = $function:ident;
+    )*) => {
+        wrappers! {$(
+            $(#[$meta])*
+            fn $name(
+                $($pass: $pass_type,)?
+                r_type: u32,
+                [$pointer] section: $section_type,
+                offset: u64,
+                flags: u8,
+                output_kind: u8,
+                executable: bool,
+                address: u64,
+                addend: i64,
+            ) -> $answer = $function;
+        )*}
+    };
+}
+
+wrappers! {
+    fn write_plt_entry(
+        [as_mut_ptr] plt_entry: &mut [u8],
+        got_address: u64,
+        plt_address: u64,
+    ) -> u8 = jitamoro_write_plt_entry;
+
+    fn fill_section_padding(
+        [as_mut_ptr] buf: &mut [u8],
+        executable: bool,
+    ) = jitamoro_fill_section_padding;
+
+    fn apply(
+        kind: u8,
+        inst_offset: u8,
+        [as_mut_ptr] section: &mut [u8],
+        offset: u64,
+        addend: i64,
+    ) -> MovedAnswer = jitamoro_apply;
+}
+
+record_wrappers! {
+    /// The section is lent for writing so that the caller can see that nothing is written.
+    fn new_relaxation([as_mut_ptr] &mut [u8]) -> ChoiceAnswer = jitamoro_new_relaxation;
+
+    /// As [`new_relaxation`], the section lent for reading.
+    fn choose([as_ptr] &[u8]) -> ChoiceAnswer = jitamoro_new_relaxation;
+
+    fn relax([as_mut_ptr] &mut [u8]) -> RelaxedAnswer = jitamoro_relax;
+
+    fn pass_step(pass: Pass, [as_mut_ptr] &mut [u8]) -> StepAnswer = jitamoro_pass_step;
+}

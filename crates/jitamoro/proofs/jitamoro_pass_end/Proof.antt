@@ -1,0 +1,14 @@
+-- `jitamoro_pass_end` meets its contract: what the ending answered, laid out.
+-- Assumes nothing.
+use Rattle.pass_answers.proofs.Laid.{end-laid}
+use borrow.Author.Needs.{needs}
+use Rattle.jitamoro.proofs.jitamoro_pass_end.Statement.{statement}
+use Rattle.jitamoro.proofs.jitamoro_pass_end.Tie as tie
+
+pub jitamoro-pass-end-spec : {M : Type 1} → statement M
+jitamoro-pass-end-spec =
+    tie.close
+    (tie.spec
+    (λ c κs. search needs)
+    (λ c κs. search needs)
+    (λ c. rw (← c .before .end .ensures .1, ← c .before .end .ensures .0) (rw (end-laid (c .before .end .result .pass) (c .before .end .result .end)) at (c .end-answer .ensures))))
