@@ -292,6 +292,9 @@ struct jitamoro_choice jitamoro_new_relaxation(uint32_t r_type, const uint8_t *s
 struct jitamoro_moved jitamoro_apply(uint8_t kind, uint8_t inst_offset, uint8_t *section, size_t len,
                                      uint64_t offset, int64_t addend);
 
+/* Whether the relocation after one relaxed by this kind is skipped; false for a number of no kind. */
+bool jitamoro_next_modifier(uint8_t kind);
+
 /* ---- A section's records, in the order of their offsets */
 
 /* A pass before its first record: 0, 0, false, false. */

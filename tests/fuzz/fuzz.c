@@ -737,13 +737,16 @@ static void check_numbers(void) {
     uint32_t kind = one_in(4) ? (uint32_t)any_number() : (uint32_t)below(16);
     run.number = kind;
     check(jitamoro_x86_64_r_type(kind) == (kind < COUNT(dynamic_types) ? dynamic_types[kind] : 0), "a dynamic type");
+    uint8_t relaxed = any_byte(20, 18);
+    run.number = relaxed;
+    check(jitamoro_next_modifier(relaxed) == (relaxed >= 10 && relaxed <= 15), "a modifier");
     int64_t min = (int64_t)any_number(), max = (int64_t)any_number();
     int64_t value = one_in(3) ? min : one_in(2) ? max : (int64_t)any_number();
     bool checked = !one_in(4);
     run.number = (uint64_t)value;
     bool inside = !checked || (min <= value && value < max);
     check(jitamoro_allowed_range_contains(checked, min, max, value) == inside, "a range");
-    run.calls += 5;
+    run.calls += 6;
 }
 
 /* ---- Long sections */

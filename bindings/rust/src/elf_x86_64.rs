@@ -105,11 +105,7 @@ impl Relaxation {
     /// What becomes of the next relocation.
     #[must_use]
     pub const fn next_modifier(&self) -> RelocationModifier {
-        if self.skip_next {
-            RelocationModifier::SkipNextRelocation
-        } else {
-            RelocationModifier::Normal
-        }
+        RelocationModifier::from_skip(self.skip_next)
     }
 
     /// Whether the relaxation has to be carried out.

@@ -1,9 +1,8 @@
 //! The x86-64 relaxation part of the wild linker, proved, behind wild's own names and types.
 //!
-//! Every answer comes from `libjitamoro.a`; here numbers are translated and nothing is decided, but for
-//! [`RelaxationKind::next_modifier`]. Modules and names are wild's, so that a call of wild's function
-//! becomes a call of this one; what wild answers by a panic or by `None` for want of a row is a
-//! [`Refusal`] here. Nothing is put on the heap.
+//! Every answer comes from `libjitamoro.a`; here numbers are translated and nothing is decided. Modules and
+//! names are wild's, so that a call of wild's function becomes a call of this one; what wild answers by a
+//! panic or by `None` for want of a row is a [`Refusal`] here. Nothing is put on the heap.
 //!
 //! | wild | here |
 //! |---|---|

@@ -170,6 +170,9 @@ unsafe extern "C" {
         addend: i64,
     ) -> MovedAnswer;
 
+    /// Whether the next relocation is skipped, by a kind's number; false where there is no such kind.
+    pub safe fn jitamoro_next_modifier(kind: u8) -> bool;
+
     pub safe fn jitamoro_pass_fresh() -> Pass;
 
     /// # Safety

@@ -14,10 +14,20 @@ pub enum RelocationModifier {
     SkipNextRelocation,
 }
 
-/// The kinds with their numbers and modifiers. `$inst_offset` names the instruction offset.
+impl RelocationModifier {
+    pub(crate) const fn from_skip(skip: bool) -> Self {
+        if skip {
+            Self::SkipNextRelocation
+        } else {
+            Self::Normal
+        }
+    }
+}
+
+/// The kinds with their numbers. `$inst_offset` names the instruction offset.
 macro_rules! relaxation_kinds {
     ($inst_offset:ident;
-     $($(#[$doc:meta])* $variant:ident $(($offset:ident: $offset_type:ty))? = $number:literal, $modifier:ident;)*
+     $($(#[$doc:meta])* $variant:ident $(($offset:ident: $offset_type:ty))? = $number:literal;)*
     ) => {
         /// How an instruction is rewritten. The number that some kinds hold is the instruction offset:
         /// how far before the field the instruction starts.
@@ -52,62 +62,59 @@ macro_rules! relaxation_kinds {
                     _ => None,
                 }
             }
-
-            /// What becomes of the relocation after one that was relaxed so. The library exports this
-            /// with a choice ([`Relaxation::next_modifier`](crate::Relaxation::next_modifier)) and not
-            /// for a kind alone, so it is a table here.
-            #[must_use]
-            pub const fn next_modifier(self) -> RelocationModifier {
-                match self {
-                    $(Self::$variant { .. } => RelocationModifier::$modifier,)*
-                }
-            }
         }
     };
 }
 
 relaxation_kinds! { inst_offset;
     /// `mov *x(%rip), reg` -> `lea x(%rip), reg`.
-    MovIndirectToLea = 0, Normal;
+    MovIndirectToLea = 0;
     /// `mov *x(%rip), reg` -> `mov x, reg`.
-    MovIndirectToAbsolute = 1, Normal;
+    MovIndirectToAbsolute = 1;
     /// The same with a prefix.
-    RexMovIndirectToAbsolute(inst_offset: u8) = 2, Normal;
+    RexMovIndirectToAbsolute(inst_offset: u8) = 2;
     /// An indirect add becomes an absolute add.
-    RexAddIndirectToAbsolute(inst_offset: u8) = 3, Normal;
+    RexAddIndirectToAbsolute(inst_offset: u8) = 3;
     /// `add x(%rip), reg` -> `lea x(reg), reg`. Never chosen; GNU ld does it.
-    RexAddIndirectToLea(inst_offset: u8) = 4, Normal;
+    RexAddIndirectToLea(inst_offset: u8) = 4;
     /// An indirect sub becomes an absolute sub.
-    RexSubIndirectToAbsolute(inst_offset: u8) = 5, Normal;
+    RexSubIndirectToAbsolute(inst_offset: u8) = 5;
     /// An indirect cmp becomes an absolute cmp.
-    RexCmpIndirectToAbsolute(inst_offset: u8) = 6, Normal;
+    RexCmpIndirectToAbsolute(inst_offset: u8) = 6;
     /// `call *x(%rip)` -> `call x(%rip)`.
-    CallIndirectToRelative = 7, Normal;
+    CallIndirectToRelative = 7;
     /// `jmp *x(%rip)` -> `jmp x(%rip)`.
-    JmpIndirectToRelative = 8, Normal;
+    JmpIndirectToRelative = 8;
     /// The instruction is left alone, and only the relocation changes.
-    NoOp = 9, Normal;
+    NoOp = 9;
     /// General dynamic (GD) to local exec.
-    TlsGdToLocalExec = 10, SkipNextRelocation;
+    TlsGdToLocalExec = 10;
     /// The same for the large-model form.
-    TlsGdToLocalExecLarge = 11, SkipNextRelocation;
+    TlsGdToLocalExecLarge = 11;
     /// Local dynamic (LD) to local exec.
-    TlsLdToLocalExec = 12, SkipNextRelocation;
+    TlsLdToLocalExec = 12;
     /// The same where an indirect call follows.
-    TlsLdToLocalExecNoPlt = 13, SkipNextRelocation;
+    TlsLdToLocalExecNoPlt = 13;
     /// The same for the large-model sequence.
-    TlsLdToLocalExec64 = 14, SkipNextRelocation;
+    TlsLdToLocalExec64 = 14;
     /// General dynamic (GD) to initial exec.
-    TlsGdToInitialExec = 15, SkipNextRelocation;
+    TlsGdToInitialExec = 15;
     /// TLSDESC to local exec.
-    TlsDescToLocalExec(inst_offset: u8) = 16, Normal;
+    TlsDescToLocalExec(inst_offset: u8) = 16;
     /// TLSDESC to initial exec.
-    TlsDescToInitialExec = 17, Normal;
+    TlsDescToInitialExec = 17;
     /// A TLSDESC_CALL becomes a no-op.
-    SkipTlsDescCall = 18, Normal;
+    SkipTlsDescCall = 18;
 }
 
 impl RelaxationKind {
+    /// What becomes of the relocation after one that was relaxed so.
+    #[must_use]
+    #[inline]
+    pub fn next_modifier(self) -> RelocationModifier {
+        RelocationModifier::from_skip(sys::jitamoro_next_modifier(self.number()))
+    }
+
     /// Rewrites the instruction whose field lies at `offset_in_section`, and sets offset and addend to
     /// those of the field afterwards.
     ///

@@ -8,6 +8,7 @@ ghost use Rattle.rules.specs.Record.{outputKind, flagNumber};
 ghost use Rattle.rules.specs.Range.{contains, within, unchecked};
 ghost use Rattle.rules.specs.Types.{lookup, dynamicType};
 ghost use Rattle.rules.specs.Plt.{pltAnswer, pltBytes, padding};
+ghost use Rattle.rules.specs.Kinds.{skips};
 ghost use Rattle.rules.specs.Choose.{choosing};
 ghost use Rattle.rules.specs.Rewrite.{rewriting, afterRewriting, relaxing, afterRelaxing};
 ghost use Rattle.relaxation_kind.specs.Kind.{numbered};
@@ -102,6 +103,15 @@ pub extern "C" fn jitamoro_apply(
     let relaxation_kind = RelaxationKind::from_number(kind, inst_offset);
     let applied = rewriting::apply(relaxation_kind, section, offset, addend);
     record_answers::moved_answer(applied)
+}
+
+// Whether the relocation after one relaxed by a kind is skipped, by the kind's number; no where there is no such kind.
+#[no_mangle]
+pub extern "C" fn jitamoro_next_modifier(kind: u8) -> bool
+    ensures { λ r. ⌜ r ≡ skips (numbered kind 0) ⌝ }
+{
+    let relaxation_kind = RelaxationKind::from_number(kind, 0);
+    relaxation_kind.next_modifier().is_skip()
 }
 
 // ---- The pass

@@ -124,11 +124,7 @@ fn weigh(flag: bool, weight: u64) -> u64
     ensures { λ r. ⌜ r ≡ bit flag * weight ⌝ }
     ensures { λ r. ⌜ r ≤ weight ⌝ }
 {
-    if flag {
-        weight
-    } else {
-        0
-    }
+    if flag { weight } else { 0 }
 }
 
 fn wide(x: u8) -> u64

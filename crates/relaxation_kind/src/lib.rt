@@ -109,6 +109,9 @@ impl RelaxationKind {
     pub fn from_number(number: u8, inst_offset: u8) -> RelaxationKind
         ensures { λ r. ⌜ kindOf r ≡ numbered number «inst_offset» ⌝ }
     {
+        if 18 < number {
+            return RelaxationKind::RexMovIndirectToAbsolute(0);
+        }
         match number {
             0 => RelaxationKind::MovIndirectToLea,
             1 => RelaxationKind::MovIndirectToAbsolute,
@@ -128,8 +131,7 @@ impl RelaxationKind {
             15 => RelaxationKind::TlsGdToInitialExec,
             16 => RelaxationKind::TlsDescToLocalExec(inst_offset),
             17 => RelaxationKind::TlsDescToInitialExec,
-            18 => RelaxationKind::SkipTlsDescCall,
-            _ => RelaxationKind::RexMovIndirectToAbsolute(0),
+            _ => RelaxationKind::SkipTlsDescCall,
         }
     }
 

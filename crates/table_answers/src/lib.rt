@@ -141,12 +141,7 @@ fn info_answer(info: RelocationKindInfo) -> RelocationAnswer
 }
 
 // Whether min ≤ value < max, or any value where the range isn't checked.
-pub fn range_contains(
-    checked: bool,
-    min: i64,
-    max: i64,
-    value: i64,
-) -> bool
+pub fn range_contains(checked: bool, min: i64, max: i64, value: i64) -> bool
     ensures { λ r. ⌜ r ≡ contains (cond checked (within min max) unchecked) value ⌝ }
 {
     if checked {
@@ -174,4 +169,3 @@ pub fn dynamic_type(kind: u32) -> u32
         _ => 0,
     }
 }
-

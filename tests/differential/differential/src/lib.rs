@@ -1,6 +1,8 @@
 //! What the programs share: numbers at random, and wild's answers in the port's numbers.
 
+use jitamoro::sys::RelocationAnswer;
 use libwild::oracle;
+use libwild::oracle::AllowedRange;
 use libwild::oracle::DynamicRelocationKind;
 use libwild::oracle::RelocationKind;
 use libwild::oracle::RelocationSize;
@@ -48,6 +50,31 @@ pub fn byte_size(size: RelocationSize) -> u8 {
     match size {
         RelocationSize::ByteSize(bytes) => bytes,
         RelocationSize::BitMasking(_) => panic!("x86-64 has whole bytes only"),
+    }
+}
+
+/// Wild's row of a type, as the port gives it.
+pub fn lookup(r_type: u32) -> RelocationAnswer {
+    let Some(info) = oracle::relocation_from_raw(r_type) else {
+        return RelocationAnswer {
+            refusal: 7,
+            ..Default::default()
+        };
+    };
+    let checked = info.range != AllowedRange::no_check();
+    let end = |end| if checked { end } else { 0 };
+    RelocationAnswer {
+        refusal: 0,
+        kind: kind_number(info.kind),
+        size: byte_size(info.size),
+        checked,
+        mask: info.mask.is_some(),
+        alignment: info.alignment,
+        bias: info.bias.is_some(),
+        thunkable: info.thunkable,
+        implicit_addend: info.implicit_addend,
+        min: end(info.range.min),
+        max: end(info.range.max),
     }
 }
 

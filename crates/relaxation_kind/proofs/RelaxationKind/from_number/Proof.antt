@@ -14,6 +14,9 @@ pub from-number-spec : {M : Type 1} → statement M
 from-number-spec =
     tie.close
     (tie.spec
+    (λ c. let a = c .before .args in
+    let e : a .number ≡ 19 + (a .number - 19) = omega arith in
+    rw e (getD-drop 19 (kinds (a .inst-offset)) (a .number - 19) (RexMovIndirectToAbsolute 0)))
     (λ c. simp (c .match .keys1))
     (λ c. simp (c .match .keys2))
     (λ c. simp (c .match .keys3))
@@ -32,8 +35,7 @@ from-number-spec =
     (λ c. simp (c .match .keys16))
     (λ c. simp (c .match .keys17))
     (λ c. simp (c .match .keys18))
-    (λ c. simp (c .match .keys19))
-    (λ c. let a = c .before .args in
-    let h = at-least 19 (a .number) (c .match .rest) in
-    let e : a .number ≡ 19 + (a .number - 19) = omega arith in
-    rw e (getD-drop 19 (kinds (a .inst-offset)) (a .number - 19) (RexMovIndirectToAbsolute 0))))
+    (λ c. let a = c .before .before .args in
+    let h = at-least 18 (a .number) (c .match .rest) in
+    let e : a .number ≡ 18 = omega arith in
+    rw e))

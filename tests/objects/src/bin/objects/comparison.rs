@@ -2,9 +2,6 @@
 
 use crate::tally::Tally;
 use differential::relaxation::Record;
-use jitamoro::sys::RelocationAnswer;
-use libwild::oracle;
-use libwild::oracle::AllowedRange;
 use objects::Object;
 use objects::Section;
 use std::fmt;
@@ -62,27 +59,8 @@ impl Comparison {
 
     pub fn lookup(&mut self, r_type: u32) {
         let port = jitamoro::sys::jitamoro_relocation_from_raw(r_type);
-        self.compare(port, rust_lookup(r_type), || format!("lookup of {r_type}"));
+        self.compare(port, differential::lookup(r_type), || format!("lookup of {r_type}"));
     }
-}
-
-/// Wild's row as the port gives it.
-fn rust_lookup(r_type: u32) -> RelocationAnswer {
-    let mut answer = RelocationAnswer::default();
-    let Some(row) = oracle::relocation_from_raw(r_type) else {
-        answer.refusal = 7;
-        return answer;
-    };
-    answer.kind = differential::kind_number(row.kind);
-    answer.size = differential::byte_size(row.size);
-    (answer.mask, answer.bias) = (row.mask.is_some(), row.bias.is_some());
-    (answer.thunkable, answer.implicit_addend) = (row.thunkable, row.implicit_addend);
-    answer.alignment = row.alignment;
-    answer.checked = row.range != AllowedRange::no_check();
-    if answer.checked {
-        (answer.min, answer.max) = (row.range.min, row.range.max);
-    }
-    answer
 }
 
 /// A record for a message: where it stands, its numbers, and the bytes near it.

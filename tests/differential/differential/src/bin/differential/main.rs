@@ -12,13 +12,13 @@ use differential::DYNAMIC_KINDS;
 use differential::KNOWN_TYPES;
 use differential::Random;
 use differential::around;
-use differential::byte_size;
-use differential::kind_number;
+use differential::relaxation;
+use jitamoro::sys::OutputKindAnswer;
+use jitamoro::sys::ValueFlagsAnswer;
 use libwild::oracle;
 use libwild::oracle::AllowedRange;
-use jitamoro::sys::OutputKindAnswer;
-use jitamoro::sys::RelocationAnswer;
-use jitamoro::sys::ValueFlagsAnswer;
+use libwild::oracle::RelaxationKind;
+use libwild::oracle::RelocationModifier;
 use std::fmt::Debug;
 use std::process::ExitCode;
 use tally::Tally;
@@ -75,10 +75,11 @@ struct Comparison {
 impl Comparison {
     fn run_parts(&mut self) {
         type Part = fn(&mut Comparison);
-        let parts: [(&str, Part); 13] = [
+        let parts: [(&str, Part); 14] = [
             ("lookup", Self::lookup),
             ("contains", Self::contains),
             ("dynamic types", Self::dynamic_types),
+            ("modifiers", Self::modifiers),
             ("output kinds", Self::output_kinds),
             ("value flags", Self::value_flags),
             ("PLT", Self::plt),
@@ -124,7 +125,7 @@ impl Comparison {
 
     fn lookup_of(&mut self, r_type: u32) {
         let port = jitamoro::sys::jitamoro_relocation_from_raw(r_type);
-        self.compare(port, rust_lookup(r_type), || format!("lookup of {r_type}"));
+        self.compare(port, differential::lookup(r_type), || format!("lookup of {r_type}"));
     }
 
     fn contains(&mut self) {
@@ -152,6 +153,19 @@ impl Comparison {
             }
         }
         println!("contains: i64::MAX in an unchecked range (a listed difference) {listed} times");
+    }
+
+    /// The modifier of every kind by its number; a number of no kind skips nothing.
+    fn modifiers(&mut self) {
+        for number in 0..=u8::MAX {
+            let port = jitamoro::sys::jitamoro_next_modifier(number);
+            let kind = relaxation::relaxation_kind(number, 3);
+            let skips = |kind: RelaxationKind| {
+                kind.next_modifier() == RelocationModifier::SkipNextRelocation
+            };
+            let rust = kind.is_some_and(skips);
+            self.compare(port, rust, || format!("modifier of kind {number}"));
+        }
     }
 
     fn dynamic_types(&mut self) {
@@ -246,30 +260,6 @@ impl Comparison {
 }
 
 /// Wild's row as the port gives it: an unchecked range is `checked` false with both ends 0.
-fn rust_lookup(r_type: u32) -> RelocationAnswer {
-    let Some(info) = oracle::relocation_from_raw(r_type) else {
-        return RelocationAnswer {
-            refusal: 7,
-            ..Default::default()
-        };
-    };
-    let checked = info.range != AllowedRange::no_check();
-    let end = |end| if checked { end } else { 0 };
-    RelocationAnswer {
-        refusal: 0,
-        kind: kind_number(info.kind),
-        size: byte_size(info.size),
-        checked,
-        mask: info.mask.is_some(),
-        alignment: info.alignment,
-        bias: info.bias.is_some(),
-        thunkable: info.thunkable,
-        implicit_addend: info.implicit_addend,
-        min: end(info.range.min),
-        max: end(info.range.max),
-    }
-}
-
 fn rust_output_kind(number: u8) -> OutputKindAnswer {
     match oracle::OutputKind::from_number(number) {
         Some(kind) => OutputKindAnswer {
