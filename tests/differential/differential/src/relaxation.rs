@@ -1,6 +1,9 @@
 //! Wild's choosing, rewriting and relaxing, answering as the port does. Refusals 1 to 5 follow from
 //! the input's numbers; 6 is a panic of wild's `apply`.
 
+use jitamoro::sys::ChoiceAnswer;
+use jitamoro::sys::MovedAnswer;
+use jitamoro::sys::RelaxedAnswer;
 use libwild::oracle;
 use libwild::oracle::OutputKind;
 use libwild::oracle::Relaxation;
@@ -8,9 +11,6 @@ use libwild::oracle::RelaxationKind;
 use libwild::oracle::RelocationKindInfo;
 use libwild::oracle::RelocationModifier;
 use libwild::oracle::ValueFlags;
-use jitamoro::sys::ChoiceAnswer;
-use jitamoro::sys::MovedAnswer;
-use jitamoro::sys::RelaxedAnswer;
 use std::panic;
 use std::panic::AssertUnwindSafe;
 

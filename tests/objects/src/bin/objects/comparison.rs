@@ -59,7 +59,9 @@ impl Comparison {
 
     pub fn lookup(&mut self, r_type: u32) {
         let port = jitamoro::sys::jitamoro_relocation_from_raw(r_type);
-        self.compare(port, differential::lookup(r_type), || format!("lookup of {r_type}"));
+        self.compare(port, differential::lookup(r_type), || {
+            format!("lookup of {r_type}")
+        });
     }
 }
 

@@ -136,7 +136,8 @@ impl Comparison {
                     long.ask(|it| relaxation::rewrite(kind, inst_offset, it, offset, i64::MIN));
                 let answers = &mut self.tally.rewriting;
                 answers.count_rewriting(rust.0.refusal, kind, inst_offset);
-                let port = long.ask(|it| jitamoro::sys::apply(kind, inst_offset, it, offset, i64::MIN));
+                let port =
+                    long.ask(|it| jitamoro::sys::apply(kind, inst_offset, it, offset, i64::MIN));
                 let input = format!("kind {kind}({inst_offset}), offset {offset:#x}");
                 self.compare_long(long, port, rust, &input);
             }

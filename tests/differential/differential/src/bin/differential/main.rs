@@ -125,7 +125,9 @@ impl Comparison {
 
     fn lookup_of(&mut self, r_type: u32) {
         let port = jitamoro::sys::jitamoro_relocation_from_raw(r_type);
-        self.compare(port, differential::lookup(r_type), || format!("lookup of {r_type}"));
+        self.compare(port, differential::lookup(r_type), || {
+            format!("lookup of {r_type}")
+        });
     }
 
     fn contains(&mut self) {
@@ -140,8 +142,12 @@ impl Comparison {
             for index in 0..edges.len() + 100_000 {
                 let random = || self.random.signed(64);
                 let value = edges.get(index).copied().unwrap_or_else(random);
-                let port =
-                    jitamoro::sys::jitamoro_allowed_range_contains(row.checked, row.min, row.max, value);
+                let port = jitamoro::sys::jitamoro_allowed_range_contains(
+                    row.checked,
+                    row.min,
+                    row.max,
+                    value,
+                );
                 let mut rust = range.contains(value);
                 // The one listed difference: the Rust's unchecked range ends before i64::MAX.
                 if range == AllowedRange::no_check() && value == i64::MAX {
