@@ -339,7 +339,7 @@ struct jitamoro_output_kind_answer jitamoro_output_kind(uint8_t number);
 /* What a flag number says. Refusal 3. */
 struct jitamoro_value_flags_answer jitamoro_value_flags(uint8_t number);
 
-/* ---- The layout that the library was compiled with */
+/* ---- The layout: where each field of an answer lies */
 
 #ifdef __cplusplus
 #define JITAMORO_ASSERT_(condition) static_assert(condition, #condition)

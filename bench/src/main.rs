@@ -1,5 +1,6 @@
 //! Times the port against wild's Rust: one driver, the same inputs, both called through a pointer
-//! to an `extern "C"` function. Buffers aren't cleared between calls. No figure passes or fails.
+//! to an `extern "C"` function, but for the pass (`real.rs`). Buffers aren't cleared between calls.
+//! No figure passes or fails. `bench [ARCHIVE ..]`: the archives are those whose records are walked.
 
 mod real;
 mod relaxing;

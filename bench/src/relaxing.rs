@@ -1,5 +1,5 @@
-//! Times choosing, rewriting and relaxing. Every record has bytes of its own; all are put back
-//! before each pass, outside the time. The port is given document 01's numbers, wild its own types,
+//! Times choosing, rewriting and relaxing. Every record has bytes of its own, or those of its real
+//! section; all are put back before each pass, outside the time. The port is given document 01's numbers, wild its own types,
 //! made of them before.
 
 use crate::elapsed;
@@ -199,8 +199,8 @@ fn cases() -> Vec<Case> {
     cases
 }
 
-/// Records with their sections: each in a short one of its own, or all in one of the greatest
-/// length.
+/// Records with their sections: each in a short one of its own, all in one of the greatest length, or
+/// as they lie in real objects.
 pub struct Pool {
     bytes: Vec<u8>,
     /// Where the records' bytes begin, and what they hold before a pass.
@@ -316,6 +316,13 @@ impl Pool {
             time
         };
         (0..PASSES).map(pass).sum()
+    }
+
+    /// The bytes after one walk.
+    pub fn walked(&mut self, walk: impl Fn(&[Input], &mut [u8])) -> Vec<u8> {
+        self.bytes.copy_from_slice(&self.before);
+        walk(&self.inputs, &mut self.bytes);
+        self.bytes.clone()
     }
 
     /// The calls of a round.

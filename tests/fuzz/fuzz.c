@@ -435,7 +435,7 @@ static struct answer call(const struct call *c, struct lent *l) {
 
 /* Refusals 1 to 4, or 0. */
 static unsigned refusal_of_record(const struct record *r, size_t len) {
-    if (len > 268435456) {
+    if (len > JITAMORO_MAX_SECTION_LENGTH) {
         return 1;
     }
     if (r->offset > len) {
@@ -450,6 +450,11 @@ static unsigned refusal_of_record(const struct record *r, size_t len) {
 static const struct shape *shape_of(uint64_t kind, uint64_t inst_offset) {
     bool with_6 = kind == JITAMORO_KIND_REX_ADD_INDIRECT_TO_ABSOLUTE && inst_offset == 6;
     return with_6 ? &rex_add_with_6 : &shapes[kind];
+}
+
+/* Whether the relocation after one relaxed so is skipped. */
+static bool kind_skips(uint64_t kind) {
+    return kind >= JITAMORO_KIND_TLS_GD_TO_LOCAL_EXEC && kind <= JITAMORO_KIND_TLS_GD_TO_INITIAL_EXEC;
 }
 
 static bool kind_allows(uint64_t kind, uint64_t inst_offset) {
@@ -516,8 +521,7 @@ static struct answer check_choosing(struct lent *l, const struct record *r) {
     check(a.field[REFUSAL] == 0, "refused and chosen");
     check(kind != JITAMORO_KIND_REX_ADD_INDIRECT_TO_LEA && kind_allows(kind, a.field[INST_OFFSET]), "no such kind");
     check((shapes[kind].inst_offsets == 0) == (a.field[INST_OFFSET] == 0), "instruction offset of another kind");
-    bool skips = kind >= JITAMORO_KIND_TLS_GD_TO_LOCAL_EXEC && kind <= JITAMORO_KIND_TLS_GD_TO_INITIAL_EXEC;
-    check(a.field[SKIP_NEXT] == skips, "skip of another kind");
+    check(a.field[SKIP_NEXT] == kind_skips(kind), "skip of another kind");
     const struct row *row = row_of(a.field[NEW_TYPE]);
     check(row != NULL, "no such new type");
     check(a.field[GOT_FALLBACK] == (row->kind == JITAMORO_RELOCATION_ABSOLUTE), "fallback of another type");
@@ -739,7 +743,7 @@ static void check_numbers(void) {
     check(jitamoro_x86_64_r_type(kind) == (kind < COUNT(dynamic_types) ? dynamic_types[kind] : 0), "a dynamic type");
     uint8_t relaxed = any_byte(20, 18);
     run.number = relaxed;
-    check(jitamoro_next_modifier(relaxed) == (relaxed >= 10 && relaxed <= 15), "a modifier");
+    check(jitamoro_next_modifier(relaxed) == kind_skips(relaxed), "a modifier");
     int64_t min = (int64_t)any_number(), max = (int64_t)any_number();
     int64_t value = one_in(3) ? min : one_in(2) ? max : (int64_t)any_number();
     bool checked = !one_in(4);
@@ -754,7 +758,7 @@ static void check_numbers(void) {
 /* Sections that are too long by a byte or more, none of whose bytes can be accessed. Those past 2^32 would look
    short in 32 bits; valgrind takes seconds to reserve so much, so that the heap's leg leaves them out. */
 static void check_too_long(void) {
-    static const size_t lengths[] = {268435457, 268435456 + PAGE, (1ull << 32) + 7, (1ull << 32) + MARGIN};
+    static const size_t lengths[] = {JITAMORO_MAX_SECTION_LENGTH + 1, JITAMORO_MAX_SECTION_LENGTH + PAGE, (1ull << 32) + 7, (1ull << 32) + MARGIN};
     static uint8_t *pages;
     static struct lent l;
     size_t count = run.placement == HEAP ? 2 : COUNT(lengths);
@@ -773,7 +777,7 @@ static void check_too_long(void) {
 static void check_longest(void) {
     static uint8_t *pages;
     static struct lent l;
-    l.len = 268435456;
+    l.len = JITAMORO_MAX_SECTION_LENGTH;
     if (pages == NULL) {
         pages = guarded_pages(l.len, PROT_READ | PROT_WRITE, MAP_PRIVATE | MAP_ANONYMOUS, -1);
     }

@@ -17,7 +17,7 @@ class Input(NamedTuple):
     code: str
     sort: str
     kinds: tuple = ALL
-    # APX needs a peer that knows the types; the others are asked once, for their refusal.
+    # APX needs a peer that knows the types; the others are asked once or twice, for their refusal.
     apx: bool = False
     by_the_book: bool = True
     executable: bool = True

@@ -191,7 +191,7 @@ def case(given, name, peer, kind, where):
 
 
 def asked(given, kind):
-    """The peers that are asked. Those without APX are asked once for each type, for their refusal."""
+    """The peers that are asked. Those without APX are asked once or twice for each type, for their refusal."""
     knows = not given.apx or (kind == 0 and given.name in ASKED_OF_ALL)
     can = [p for p in PEERS if (p, kind) not in CANNOT and (p, given.sort) not in CANNOT]
     return [p for p in can if knows or p in KNOWS_APX]

@@ -1,11 +1,12 @@
 // Choosing and relaxing where most records need no byte: addresses and calls are settled by their numbers, in
 // line, and the rest is left to `new_relaxation` and `relax`. The contracts are theirs.
 ghost use mathlib.Core.Path.{_≡_};
+ghost use Rattle.rules.specs.Record.{isS};
 ghost use Rattle.rules.specs.Choose.{choosing};
 ghost use Rattle.rules.specs.Rewrite.{relaxing, afterRelaxing};
 ghost use Rattle.choice.specs.Choices.{choiceOf};
 ghost use Rattle.relax.specs.Relax.{relaxedOf, RelaxingKeepsMeaning};
-ghost use Rattle.quick.specs.Settled.{called, settled, Settles};
+ghost use Rattle.quick.specs.Plain.{calledAt, Plain, unruled};
 use choice::Choice;
 use choice::is_non_interposable;
 use choice::relax_to;
@@ -14,15 +15,6 @@ use relaxation::Relaxation;
 use relaxation_kind::RelaxationKind;
 use rewriting::Moved;
 use value_flags::ValueFlags;
-
-// What a record's numbers say, without a byte.
-enum Settled {
-    // Nothing: bytes decide, or an ifunc, or it is refused.
-    Open,
-    Nothing,
-    // A call of a symbol that isn't interposable, NoOp to PC32: whether it is mandatory.
-    Call(bool),
-}
 
 // As `new_relaxation::new_relaxation`.
 pub fn new_relaxation(
@@ -37,29 +29,30 @@ pub fn new_relaxation(
 ) -> Choice
     ensures { λ r. ⌜ choiceOf r ≡ choosing (now («section_bytes» .entry)) «offset_in_section» flags «output_kind» «sym_addr» «rel_addend» «relocation_kind» executable ⌝ }
 {
-    match settle(
+    let plain = is_plain(section_bytes, offset_in_section, flags, output_kind);
+    if plain {
+        let unruled = is_unruled(relocation_kind, flags, executable);
+        if unruled {
+            return Choice::Nothing;
+        }
+        if relocation_kind == object::R_X86_64_PLT32 {
+            return relax_to(
+                RelaxationKind::NoOp,
+                object::R_X86_64_PC32,
+                is_static(output_kind),
+            );
+        }
+    }
+    new_relaxation::new_relaxation(
         relocation_kind,
         section_bytes,
         offset_in_section,
         flags,
         output_kind,
         executable,
-    ) {
-        Settled::Nothing => Choice::Nothing,
-        Settled::Call(mandatory) => {
-            relax_to(RelaxationKind::NoOp, object::R_X86_64_PC32, mandatory)
-        }
-        Settled::Open => new_relaxation::new_relaxation(
-            relocation_kind,
-            section_bytes,
-            offset_in_section,
-            flags,
-            output_kind,
-            executable,
-            sym_addr,
-            rel_addend,
-        ),
-    }
+        sym_addr,
+        rel_addend,
+    )
 }
 
 // As `relax::relax`.
@@ -77,94 +70,88 @@ pub fn relax(
     ensures { λ _. ⌜ now («section_bytes» .exit) ≡ afterRelaxing (now («section_bytes» .entry)) (relaxing (now («section_bytes» .entry)) «offset_in_section» flags «output_kind» «sym_addr» «rel_addend» «relocation_kind» executable) ⌝ }
     ensures { λ r. ⌜ RelaxingKeepsMeaning «relocation_kind» (now («section_bytes» .entry)) «offset_in_section» r (now («section_bytes» .exit)) ⌝ }
 {
-    match settle(
+    let plain = is_plain(section_bytes, offset_in_section, flags, output_kind);
+    if plain {
+        let unruled = is_unruled(relocation_kind, flags, executable);
+        if unruled {
+            return Relaxed::Nothing;
+        }
+        if relocation_kind == object::R_X86_64_PLT32 {
+            return relaxed_call(is_static(output_kind), offset_in_section, rel_addend);
+        }
+    }
+    relax::relax(
         relocation_kind,
         section_bytes,
         offset_in_section,
         flags,
         output_kind,
         executable,
-    ) {
-        Settled::Nothing => Relaxed::Nothing,
-        Settled::Call(mandatory) => Relaxed::Done(
-            Relaxation {
-                kind: RelaxationKind::NoOp,
-                new_type: object::R_X86_64_PC32,
-                mandatory: mandatory,
-            },
-            Moved {
-                offset: offset_in_section,
-                addend: rel_addend,
-            },
-        ),
-        Settled::Open => relax::relax(
-            relocation_kind,
-            section_bytes,
-            offset_in_section,
-            flags,
-            output_kind,
-            executable,
-            sym_addr,
-            rel_addend,
-        ),
-    }
+        sym_addr,
+        rel_addend,
+    )
 }
 
-fn settle(
-    relocation_kind: u32,
-    section_bytes: &[u8],
-    offset_in_section: u64,
-    flags: u8,
-    output_kind: u8,
-    executable: bool,
-) -> Settled
-    ensures { λ r. ⌜ Settles r (now («section_bytes» .entry)) «offset_in_section» flags «output_kind» «relocation_kind» executable ⌝ }
+// A call of a symbol that isn't interposable keeps its bytes, its offset and its addend.
+fn relaxed_call(mandatory: bool, offset: u64, addend: i64) -> Relaxed
+    ensures { λ r. ⌜ r ≡ calledAt mandatory offset addend ⌝ }
+{
+    Relaxed::Done(
+        Relaxation {
+            kind: RelaxationKind::NoOp,
+            new_type: object::R_X86_64_PC32,
+            mandatory: mandatory,
+        },
+        Moved {
+            offset: offset,
+            addend: addend,
+        },
+    )
+}
+
+// Whether a record is neither refused by 1 to 4 nor an ifunc.
+fn is_plain(section_bytes: &[u8], offset_in_section: u64, flags: u8, output_kind: u8) -> bool
+    ensures { λ r. ⌜ Plain r (now («section_bytes» .entry)) «offset_in_section» flags «output_kind» ⌝ }
 {
     if 268435456 < section_bytes.len() {
-        return Settled::Open;
+        return false;
     }
     let offset = offset_in_section as usize;
     if section_bytes.len() < offset {
-        return Settled::Open;
+        return false;
     }
-    // An ifunc, or refused.
     if 7 < flags {
-        return Settled::Open;
+        return false;
     }
     if 5 < output_kind {
-        return Settled::Open;
+        return false;
     }
+    true
+}
+
+// Whether nothing is chosen for a plain record, by its numbers: of the types below 19 only PLT32 and
+// GOTPCREL have a rule.
+fn is_unruled(relocation_kind: u32, flags: u8, executable: bool) -> bool
+    ensures { λ r. ⌜ r ≡ unruled «relocation_kind» flags executable ⌝ }
+{
     if executable {
-        return by_type(relocation_kind, flags, output_kind);
+        if relocation_kind == object::R_X86_64_PLT32 {
+            return !is_non_interposable(ValueFlags { bits: flags });
+        }
+        if relocation_kind < object::R_X86_64_GOTPCREL {
+            return true;
+        }
+        if relocation_kind < object::R_X86_64_32 {
+            return false;
+        }
+        return relocation_kind < object::R_X86_64_TLSGD;
     }
-    Settled::Nothing
+    true
 }
 
-// Of the types below 19 only GOTPCREL looks at bytes.
-fn by_type(relocation_kind: u32, flags: u8, output_kind: u8) -> Settled
-    ensures { λ r. ⌜ r ≡ settled «relocation_kind» flags «output_kind» ⌝ }
+// S
+fn is_static(output_kind: u8) -> bool
+    ensures { λ r. ⌜ r ≡ isS «output_kind» ⌝ }
 {
-    if relocation_kind == object::R_X86_64_PLT32 {
-        return call(flags, output_kind);
-    }
-    if relocation_kind < object::R_X86_64_GOTPCREL {
-        return Settled::Nothing;
-    }
-    if relocation_kind < object::R_X86_64_32 {
-        return Settled::Open;
-    }
-    if relocation_kind < object::R_X86_64_TLSGD {
-        return Settled::Nothing;
-    }
-    Settled::Open
-}
-
-fn call(flags: u8, output_kind: u8) -> Settled
-    ensures { λ r. ⌜ r ≡ called flags «output_kind» ⌝ }
-{
-    let relaxable = is_non_interposable(ValueFlags { bits: flags });
-    if relaxable {
-        return Settled::Call((output_kind == 0) | (output_kind == 1));
-    }
-    Settled::Nothing
+    (output_kind == 0) | (output_kind == 1)
 }

@@ -31,8 +31,8 @@ done-laid (Refused n) new = refl
 chosen-said : (k : RelaxationKind) (t : ℕ) (m : Bool) → isChosen (kindLayout k t m) ≡ true
 chosen-said k t m =
     by (shapeOf k .number) (shapeOf k .inst) (bit m) (bit (skips k)) (bit (needsGotFallback t)) where
-      by : (n i x y z : ℕ) → eqb ((2 ^ 8 + n * 2 ^ 16 + i * 2 ^ 24 + (x * 2 ^ 32 + y * 2 ^ 40 + z * 2 ^ 48)) / 2 ^ 8 % 2) 1 ≡ true
-      by n i x y z = let e : (2 ^ 8 + n * 2 ^ 16 + i * 2 ^ 24 + (x * 2 ^ 32 + y * 2 ^ 40 + z * 2 ^ 48)) / 2 ^ 8 % 2 ≡ 1 = omega arith in rw e
+      by : (n i x y z : ℕ) → eqb ((2 ^ 8 + n * 2 ^ 16 + i * 2 ^ 24 + (x * 2 ^ 32 + y * 2 ^ 40 + z * 2 ^ 48)) / 2 ^ 8 % 2 ^ 8) 1 ≡ true
+      by n i x y z = let e : (2 ^ 8 + n * 2 ^ 16 + i * 2 ^ 24 + (x * 2 ^ 32 + y * 2 ^ 40 + z * 2 ^ 48)) / 2 ^ 8 % 2 ^ 8 ≡ 1 = omega arith in rw e
 
 pub refused-unsaid : (n : ℕ) → isChosen (chosenNot n) ≡ false
 refused-unsaid n = let z : n % 2 ^ 8 / 2 ^ 8 ≡ 0 = omega arith in rw z

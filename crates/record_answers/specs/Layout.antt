@@ -20,7 +20,7 @@ use Rattle.rewriting.specs.declared.Applied.the-variants as applied
 use Rattle.relax.specs.declared.Relaxed as relax
 use Rattle.relax.specs.declared.Relaxed.the-variants as done
 
--- none (0), or a refusal: byte 0 of the head
+-- none (0), or a refusal, which is below 2 ^ 8: byte 0 of the head
 abbrev pub chosenNot : ℕ → ChoiceAnswer
 chosenNot n = record { head = n % 2 ^ 8; «new_type» = 0 }
 
@@ -59,7 +59,7 @@ relaxedLayout (refuses n) = relaxedNot n
 
 -- byte 1 of the head
 abbrev pub isChosen : ChoiceAnswer → Bool
-isChosen c = eqb (c .head / 2 ^ 8 % 2) 1
+isChosen c = eqb (c .head / 2 ^ 8 % 2 ^ 8) 1
 
 -- Demand 3, of a call that answered r and left the bytes new: "from any state, ends alike on the old instruction and on the relaxed and filled one"
 pub record KeepsMeaning (type : ℕ) (old : List ℕ) (off : ℕ) (r : RelaxedAnswer) (new : List ℕ) : Type 0 where

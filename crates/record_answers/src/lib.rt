@@ -9,8 +9,9 @@ use relaxation::Relaxation;
 use rewriting::Applied;
 
 // A choice. The bytes of `head`, low byte first: the refusal; then, where a kind was chosen, 1, the kind, its
-// instruction offset, mandatory, skip the next relocation, needs a GOT fallback, and else 0. One number, so that an
-// answer takes few stores; C has a field for each byte.
+// instruction offset, mandatory, skip the next relocation, needs a GOT fallback; and 0. One number, so that an answer
+// takes few stores. C and Rust have a field for each of the seven, at the same places: there the struct ends after
+// `new_type`, 4 bytes earlier, which shows neither in two registers nor before the offset of `RelaxedAnswer`.
 #[repr(C)]
 pub struct ChoiceAnswer {
     pub head: u64,
@@ -60,6 +61,7 @@ pub fn moved_answer(applied: Applied) -> MovedAnswer
     }
 }
 
+// The second promise is what gives demand 3 of the layout something to speak of.
 pub fn relaxed_answer(relaxed: Relaxed) -> RelaxedAnswer
     ensures { λ r. ⌜ r ≡ doneLayout relaxed ⌝ }
     ensures { λ r. ⌜ isChosen (r .choice) ≡ isDone relaxed ⌝ }

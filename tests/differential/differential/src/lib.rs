@@ -53,7 +53,7 @@ pub fn byte_size(size: RelocationSize) -> u8 {
     }
 }
 
-/// Wild's row of a type, as the port gives it.
+/// Wild's row of a type, as the port gives it: an unchecked range is `checked` false with both ends 0.
 pub fn lookup(r_type: u32) -> RelocationAnswer {
     let Some(info) = oracle::relocation_from_raw(r_type) else {
         return RelocationAnswer {

@@ -12,7 +12,7 @@ pub struct Record {
 
 pub struct Case {
     pub name: String,
-    /// Whether the form is the psABI's.
+    /// Whether assemblers make the form, with the type that belongs to it.
     pub by_the_book: bool,
     pub kind: u8,
     pub executable: bool,

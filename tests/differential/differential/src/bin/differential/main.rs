@@ -265,7 +265,6 @@ impl Comparison {
     }
 }
 
-/// Wild's row as the port gives it: an unchecked range is `checked` false with both ends 0.
 fn rust_output_kind(number: u8) -> OutputKindAnswer {
     match oracle::OutputKind::from_number(number) {
         Some(kind) => OutputKindAnswer {
