@@ -46,8 +46,9 @@ pub fn time_archive(path: &str) {
 }
 
 fn time_pass(name: &str, pool: &RefCell<Pool>) {
-    let same = pool.borrow_mut().walked(port_walk) == pool.borrow_mut().walked(rust_walk);
-    assert!(same, "{name}: the two passes leave other bytes");
+    let by_port = pool.borrow_mut().walked(port_walk);
+    let by_rust = pool.borrow_mut().walked(rust_walk);
+    assert!(by_port == by_rust, "{name}: the passes leave other bytes");
     let port = || pool.borrow_mut().run_all(port_walk);
     let rust = || pool.borrow_mut().run_all(rust_walk);
     let calls = pool.borrow().calls();
