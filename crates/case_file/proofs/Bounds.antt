@@ -7,9 +7,9 @@ use lib.Dec.{ltb, lit≤}
 use lib.IntN.{ℤ, pos, negsuc}
 use lib.ListN.{length, length-append}
 use Rattle.io.specs.Digits.{glyph}
-use Rattle.rules.specs.Answer.{Answer, gives, refuses}
-use Rattle.rules.specs.Kinds.{shapeOf, skips}
-use Rattle.rules.specs.Rewrite.{Relaxed, unrelaxed, relaxed}
+use Rattle.x86_64_kind.specs.Kinds.{shapeOf, skips}
+use Rattle.relax.specs.declared.Relaxed.{Relaxed}
+use Rattle.relax.specs.declared.Relaxed.the-variants.{Nothing, Done, Refused}
 use Rattle.case_file.specs.Text.{decimalIn, decimal, signedDecimal, hexOf, hex}
 use Rattle.case_file.specs.CaseFile.{field, flag, noneWord, refusedWord, ending, line}
 use Rattle.case_file.specs.Parts.{Bounds}
@@ -62,13 +62,13 @@ words = (record { bound = omega arith }, record { bound = omega arith })
 with-section : {t : List ℕ} {m : ℕ} (s : List ℕ) → m ≤ 169 → Within t m → length (t ++ ending s) ≤ 171 + 2 * length s
 with-section s l h = let p = joined h (endings s) .bound in omega arith
 
-line-bound : (n : ℕ) (a : Answer Relaxed) (s : List ℕ) → length (line n a s) ≤ 171 + 2 * length s
+line-bound : (n : ℕ) (a : Relaxed) (s : List ℕ) → length (line n a s) ≤ 171 + 2 * length s
 unfolding line
-line-bound n (gives (relaxed k t m r)) s =
+line-bound n (Done x m) s =
     with-section s (lit≤ tt)
-    (joined (joined (joined (joined (joined (joined (joined (fields n) (fields (shapeOf k .number))) (fields (shapeOf k .inst))) (fields (r .offset))) (joined (signs (r .addend)) (one 32))) (fields t)) (fields (flag (skips k)))) (fields (flag m)))
-line-bound n (gives unrelaxed) s = with-section s (lit≤ tt) (joined (fields n) (words .0))
-line-bound n (refuses k) s = with-section s (lit≤ tt) (joined (joined (fields n) (words .1)) (fields k))
+    (joined (joined (joined (joined (joined (joined (joined (fields n) (fields (shapeOf (x .kind) .number))) (fields (shapeOf (x .kind) .«inst_offset»))) (fields (m .offset))) (joined (signs (m .addend)) (one 32))) (fields (x .«new_type»))) (fields (flag (skips (x .kind))))) (fields (flag (x .mandatory))))
+line-bound n Nothing s = with-section s (lit≤ tt) (joined (fields n) (words .0))
+line-bound n (Refused k) s = with-section s (lit≤ tt) (joined (joined (fields n) (words .1)) (fields k))
 
 pub bounds : Bounds
 bounds = record { line-bound = line-bound }

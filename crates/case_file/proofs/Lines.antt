@@ -10,12 +10,13 @@ use lib.Dec.{leb, ltb}
 use lib.ListN.{length, take, length-append}
 use lib.Seq.{sets, take-all, take-length, length-take-le}
 use borrow.Author.Tests.{le-leb, leb-true, leb-false, ltb-true, ltb-false}
-use Rattle.rules.specs.Answer.{refuses}
+use Rattle.rules.specs.Answer.{Answer, gives, refuses}
+use Rattle.relax.specs.declared.Relaxed.the-variants.{Refused}
 use Rattle.case_read.specs.declared.Case.{Case}
 use Rattle.case_read.specs.declared.Read.{Read}
 use Rattle.case_read.specs.declared.Read.the-variants.{End, Torn, Whole}
 use Rattle.case_file.specs.declared.Next.{Next}
-use Rattle.case_read.specs.Reading.{byteOf, numberOf, marked, caseAt, readAt}
+use Rattle.case_read.specs.Reading.{Standing, end, whole as whole-case, readOf, byteOf, numberOf, marked, caseAt, readAt}
 use Rattle.case_file.specs.Text.{Puts}
 use Rattle.case_file.specs.CaseFile.{line, lineOf, textOf, placeAfter, lines}
 use Rattle.case_file.specs.Parts.{roomFrom, PutsNext}
@@ -29,11 +30,11 @@ module _ (file : List ℕ) (at : ℕ) where
   Stands (Torn r) = Unit {0}
   Stands (Whole c) = (c .start ≡ at + 26) × (c .start + c .len ≤ length file) × (c .len ≤ 4096)
 
-  test : (b : Bool) (r : ℕ) (s : Read) → (b ≡ false → Stands s) → Stands (cond b (Torn r) s)
+  test : (b : Bool) (r : ℕ) (s : Answer Standing) → (b ≡ false → Stands (readOf s)) → Stands (readOf (cond b (refuses r) s))
   test true r s h = tt
   test false r s h = h refl
 
-  first : (b : Bool) (s : Read) → (b ≡ false → Stands s) → Stands (cond b End s)
+  first : (b : Bool) (s : Answer Standing) → (b ≡ false → Stands (readOf s)) → Stands (readOf (cond b (gives end) s))
   first true s h = tt
   first false s h = h refl
 
@@ -46,7 +47,7 @@ module _ (file : List ℕ) (at : ℕ) where
       (λ a. test (not (marked file at)) 10 _
       (λ m. test (ltb 1 (byteOf file at 5)) 12 _
       (λ x. test (ltb 4096 (numberOf file at 8 2)) 13 _
-      (λ l. test (ltb (length file - at - 26) (numberOf file at 8 2)) 11 (Whole (caseAt file at))
+      (λ l. test (ltb (length file - at - 26) (numberOf file at 8 2)) 11 (gives (whole-case (caseAt file at)))
       (λ s. within (numberOf file at 8 2) (leb-false _ _ e) (ltb-false _ _ a) (ltb-false _ _ l) (ltb-false _ _ s)))))))
     where
       within : (len : ℕ) → at < length file → 26 ≤ length file - at → len ≤ 4096 → len ≤ length file - at - 26 → (at + 26 ≡ at + 26) × (at + 26 + len ≤ length file) × (len ≤ 4096)
@@ -113,7 +114,7 @@ module _ (s : List ℕ) (at : ℕ) (file : List ℕ) (n : ℕ) where
       }
 
   pub next-torn :
-      (r : Read) (place k : ℕ) (new : List ℕ) (next : ℕ) → roomFrom at file place ≤ length s → r ≡ Torn k → Puts s at (line n (refuses k) []) 171 new next
+      (r : Read) (place k : ℕ) (new : List ℕ) (next : ℕ) → roomFrom at file place ≤ length s → r ≡ Torn k → Puts s at (line n (Refused k) []) 171 new next
       → PutsNext s at file n r new (record { place = length file; at = next })
   next-torn r place k new next h e p =
       rw e

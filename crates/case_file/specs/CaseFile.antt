@@ -3,10 +3,14 @@ use mathlib.Core.Bool.{Bool, cond}
 use mathlib.Core.List.{List, [], _∷_, _++_}
 use Prim.Native.Nat.{ℕ, zero, suc, _+_}
 use lib.ListN.{length, take, drop}
-use Rattle.rules.specs.Answer.{Answer, gives, refuses}
+use Rattle.x86_64_kind.specs.Kinds.{shapeOf, skips}
+use Rattle.rules.specs.declared.Relocation.{Relocation}
+use Rattle.rules.specs.Record.{linkLimit, relocation}
 use Rattle.rules.specs.Range.{signed64}
-use Rattle.rules.specs.Kinds.{shapeOf, skips}
-use Rattle.rules.specs.Rewrite.{Relaxed, unrelaxed, relaxed, relaxing, afterRelaxing}
+use Rattle.rules.specs.Rewrite.{relaxing, afterRelaxing}
+use Rattle.relax.specs.declared.Relaxed.{Relaxed}
+use Rattle.relax.specs.declared.Relaxed.the-variants.{Nothing, Done, Refused}
+use Rattle.relax.specs.Answers.{relaxedOf}
 use Rattle.case_read.specs.declared.Case.{Case}
 use Rattle.case_read.specs.declared.Read.{Read}
 use Rattle.case_read.specs.declared.Read.the-variants.{End, Torn, Whole}
@@ -35,11 +39,11 @@ refusedWord = 114 ∷ 101 ∷ 102 ∷ 117 ∷ 115 ∷ 101 ∷ 100 ∷ 32 ∷ []
 
 -- "A line: record number from 1, kind .., instruction offset or 0, new offset, new addend, new type, skip 0/1, mandatory 0/1, section in hex
 -- or "-". Other lines: `N none HEX`, `N refused R HEX`": number, answer, the section then
-unfoldable pub line : ℕ → Answer Relaxed → List ℕ → List ℕ
-line n (gives (relaxed k t m r)) s =
-    field n ++ field (shapeOf k .number) ++ field (shapeOf k .inst) ++ field (r .offset) ++ (signedDecimal (r .addend) ++ (32 ∷ [])) ++ field t ++ field (flag (skips k)) ++ field (flag m) ++ ending s
-line n (gives unrelaxed) s = field n ++ noneWord ++ ending s
-line n (refuses k) s = field n ++ refusedWord ++ field k ++ ending s
+unfoldable pub line : ℕ → Relaxed → List ℕ → List ℕ
+line n (Done x m) s =
+    field n ++ field (shapeOf (x .kind) .number) ++ field (shapeOf (x .kind) .«inst_offset») ++ field (m .offset) ++ (signedDecimal (m .addend) ++ (32 ∷ [])) ++ field (x .«new_type») ++ field (flag (skips (x .kind))) ++ field (flag (x .mandatory)) ++ ending s
+line n Nothing s = field n ++ noneWord ++ ending s
+line n (Refused k) s = field n ++ refusedWord ++ field k ++ ending s
 
 -- ---- a file's text
 
@@ -47,18 +51,21 @@ line n (refuses k) s = field n ++ refusedWord ++ field k ++ ending s
 abbrev pub sectionOf : List ℕ → Case → List ℕ
 sectionOf file c = take (c .len) (drop (c .start) file)
 
--- "It relaxes each record alone"
-abbrev pub relaxingOf : List ℕ → Case → Answer Relaxed
-relaxingOf sec c =
-    relaxing sec (c .offset) (c .flags) (c .«output_kind») (c .address) (signed64 (c .addend)) (c .«r_type») (c .executable)
+abbrev pub recordOf : Case → Relocation
+recordOf c =
+    relocation (c .«r_type») (c .offset) (c .flags) (c .«output_kind») (c .executable) (c .address) (signed64 (c .addend))
 
+-- "It relaxes each record alone"
 unfoldable pub lineOf : List ℕ → ℕ → Case → List ℕ
-lineOf file n c = line n (relaxingOf (sectionOf file c) c) (afterRelaxing (sectionOf file c) (relaxingOf (sectionOf file c) c))
+lineOf file n c =
+    let sec = sectionOf file c in
+    let a = relaxing linkLimit sec (recordOf c) in
+    line n (relaxedOf a) (afterRelaxing sec a)
 
 -- the line of what was read, if any: "After 10 to 13 HEX is "-""
 abbrev pub textOf : List ℕ → ℕ → Read → List ℕ
 textOf file n End = []
-textOf file n (Torn r) = line n (refuses r) []
+textOf file n (Torn r) = line n (Refused r) []
 textOf file n (Whole c) = lineOf file n c
 
 -- where to go on: after 10 to 13 "reading stops", at the file's end

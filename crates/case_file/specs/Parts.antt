@@ -4,8 +4,7 @@ use mathlib.Core.List.{List}
 use Prim.Native.Nat.{ℕ, _+_, _-_, _*_, _≤_, _<_}
 use lib.ListN.{length}
 use lib.Seq.{sets}
-use Rattle.rules.specs.Answer.{Answer}
-use Rattle.rules.specs.Rewrite.{Relaxed}
+use Rattle.relax.specs.declared.Relaxed.{Relaxed}
 use Rattle.case_read.specs.declared.Read.{Read}
 use Rattle.case_file.specs.declared.Next.{Next}
 use Rattle.case_file.specs.CaseFile.{line, textOf, placeAfter}
@@ -25,4 +24,4 @@ pub record PutsNext (old : List ℕ) (at : ℕ) (file : List ℕ) (n : ℕ) (rea
 
 -- the longest possible line, whatever the number, the answer and the section
 pub record Bounds : Type 0 where
-  pub line-bound : (n : ℕ) (a : Answer Relaxed) (s : List ℕ) → length (line n a s) ≤ 171 + 2 * length s
+  pub line-bound : (n : ℕ) (a : Relaxed) (s : List ℕ) → length (line n a s) ≤ 171 + 2 * length s

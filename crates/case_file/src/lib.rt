@@ -8,22 +8,23 @@ ghost use lib.ListN.{length};
 ghost use lib.IntN.{natAbs};
 ghost use lib.Signed.{nonNeg};
 ghost use lib.Seq.{sets};
-ghost use Rattle.rules.specs.Answer.{gives, refuses};
-ghost use Rattle.rules.specs.Rewrite.{unrelaxed, afterRelaxing};
-ghost use Rattle.relax.specs.Relax.{relaxedOf};
+ghost use Rattle.rules.specs.Record.{linkLimit};
+ghost use Rattle.rules.specs.Rewrite.{relaxing, afterRelaxing};
+ghost use Rattle.relax.specs.Answers.{relaxedOf};
 ghost use Rattle.relax.specs.declared.Relaxed.the-variants as answer;
 ghost use Rattle.io.specs.Counts.{Counts};
 ghost use Rattle.io.specs.Digits.{glyph as Digits·glyph};
 ghost use Rattle.case_read.specs.Reading.{readAt};
 ghost use Rattle.case_file.specs.Text.{decimal, signedDecimal, hex, Puts};
-ghost use Rattle.case_file.specs.CaseFile.{field, flag, ending, line, sectionOf, relaxingOf, lineOf, lines, text};
+ghost use Rattle.case_file.specs.CaseFile.{field, flag, ending, line, sectionOf, recordOf, lineOf, lines, text};
 ghost use Rattle.case_file.specs.Sample.{SampleHolds};
 ghost use Rattle.case_file.specs.Parts.{roomFrom, PutsNext, Bounds};
 use case_read::Case;
 use case_read::Read;
+use elf_x86_64_relaxation::Relaxation;
 use relax::Relaxed;
-use relaxation::Relaxation;
-use rewriting::Moved;
+use rules::Relocation;
+use x86_64_apply::Moved;
 
 // ---- Text
 
@@ -132,7 +133,7 @@ fn glyph(d: u8) -> u8
 
 fn put_line(out: &mut [u8], at: usize, number: u64, relaxed: Relaxed, section: &[u8]) -> usize
     requires { ⌜ at + 171 + 2 * length (now section) ≤ length (now out) ⌝ }
-    ensures { λ r. ⌜ Puts (now (out .entry)) at (line number (relaxedOf relaxed (now (section .entry))) (now (section .entry))) (171 + 2 * length (now (section .entry))) (now (out .exit)) r ⌝ }
+    ensures { λ r. ⌜ Puts (now (out .entry)) at (line number relaxed (now (section .entry))) (171 + 2 * length (now (section .entry))) (now (out .exit)) r ⌝ }
 {
     match relaxed {
         Relaxed::Nothing => put_none(out, at, number, section),
@@ -150,7 +151,7 @@ fn put_line(out: &mut [u8], at: usize, number: u64, relaxed: Relaxed, section: &
 
 fn put_none(out: &mut [u8], at: usize, number: u64, section: &[u8]) -> usize
     requires { ⌜ at + 171 + 2 * length (now section) ≤ length (now out) ⌝ }
-    ensures { λ r. ⌜ Puts (now (out .entry)) at (line number (gives unrelaxed) (now (section .entry))) (171 + 2 * length (now (section .entry))) (now (out .exit)) r ⌝ }
+    ensures { λ r. ⌜ Puts (now (out .entry)) at (line number answer.Nothing (now (section .entry))) (171 + 2 * length (now (section .entry))) (now (out .exit)) r ⌝ }
 {
     let at1 = put_field(out, at, number);
     let at2 = put_bytes(out, at1, b"none ");
@@ -159,7 +160,7 @@ fn put_none(out: &mut [u8], at: usize, number: u64, section: &[u8]) -> usize
 
 fn put_refused(out: &mut [u8], at: usize, number: u64, refusal: u8, section: &[u8]) -> usize
     requires { ⌜ at + 171 + 2 * length (now section) ≤ length (now out) ⌝ }
-    ensures { λ r. ⌜ Puts (now (out .entry)) at (line number (refuses refusal) (now (section .entry))) (171 + 2 * length (now (section .entry))) (now (out .exit)) r ⌝ }
+    ensures { λ r. ⌜ Puts (now (out .entry)) at (line number (answer.Refused refusal) (now (section .entry))) (171 + 2 * length (now (section .entry))) (now (out .exit)) r ⌝ }
 {
     let at1 = put_field(out, at, number);
     let at2 = put_bytes(out, at1, b"refused ");
@@ -177,7 +178,7 @@ fn put_relaxed(
     section: &[u8],
 ) -> usize
     requires { ⌜ at + 171 + 2 * length (now section) ≤ length (now out) ⌝ }
-    ensures { λ r. ⌜ Puts (now (out .entry)) at (line number (relaxedOf (answer.Done relaxation moved) (now (section .entry))) (now (section .entry))) (171 + 2 * length (now (section .entry))) (now (out .exit)) r ⌝ }
+    ensures { λ r. ⌜ Puts (now (out .entry)) at (line number (answer.Done relaxation moved) (now (section .entry))) (171 + 2 * length (now (section .entry))) (now (out .exit)) r ⌝ }
 {
     let kind = relaxation.kind;
     let at1 = put_field(out, at, number);
@@ -202,23 +203,28 @@ fn as_number(b: bool) -> u64
 // Relaxes the record of a case alone, in a copy of its section.
 fn relax_case(file: &[u8], case: Case, section: &mut [u8]) -> Relaxed
     requires { ⌜ (case .start + case .len ≤ length (now file)) × (length (now section) ≡ case .len) ⌝ }
-    ensures { λ r. ⌜ relaxedOf r (now (section .exit)) ≡ relaxingOf (sectionOf (now (file .entry)) case) case ⌝ }
-    ensures { λ _. ⌜ now (section .exit) ≡ afterRelaxing (sectionOf (now (file .entry)) case) (relaxingOf (sectionOf (now (file .entry)) case) case) ⌝ }
+    ensures { λ r. ⌜ r ≡ relaxedOf (relaxing linkLimit (sectionOf (now (file .entry)) case) (recordOf case)) ⌝ }
+    ensures { λ _. ⌜ now (section .exit) ≡ afterRelaxing (sectionOf (now (file .entry)) case) (relaxing linkLimit (sectionOf (now (file .entry)) case) (recordOf case)) ⌝ }
     ensures { λ _. ⌜ length (now (section .exit)) ≡ case .len ⌝ }
 {
     let start = case.start;
     let end = start + case.len;
     put_bytes(section, 0, &file[start..end]);
-    relax::relax(
-        case.r_type as u32,
-        section,
-        case.offset,
-        case.flags,
-        case.output_kind,
-        case.executable,
-        case.address,
-        elf::as_i64(case.addend),
-    )
+    relax::relax(section, record_of(case))
+}
+
+fn record_of(case: Case) -> Relocation
+    ensures { λ r. ⌜ r ≡ recordOf case ⌝ }
+{
+    Relocation {
+        r_type: case.r_type as u32,
+        offset: case.offset,
+        flags: case.flags,
+        output_kind: case.output_kind,
+        executable: case.executable,
+        address: case.address,
+        addend: elf::as_i64(case.addend),
+    }
 }
 
 // The line of a case, relaxed in a buffer as long as its section.

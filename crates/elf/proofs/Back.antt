@@ -3,13 +3,13 @@
 use mathlib.Core.Path.{_≡_, refl, ap}
 use Rattle.rules.specs.Range.{Range, within, unchecked}
 use Rattle.rules.specs.Types.{Kind, Row, Absolute, SymbolSize, Relative, SymRelGotBase, GotRelGotBase, PltRelGotBase, PltRelative, GotRelative, TlsGd, TlsLd, DtpOff, GotTpOff, TpOff, TlsDesc, TlsDescCall, None}
-use Rattle.elf.specs.Elf.{rangeFrom, rangeOf, kindFrom, kindOf, infoFrom, rowOf}
+use Rattle.elf.specs.Elf.{rangeFrom, rangeOf, relocationKindFrom, relocationKindOf, infoFrom, rowOf}
 
 pub range-back : (r : Range) → rangeOf (rangeFrom r) ≡ r
 range-back (within min max) = refl
 range-back unchecked = refl
 
-pub kind-back : (k : Kind) → kindOf (kindFrom k) ≡ k
+pub kind-back : (k : Kind) → relocationKindOf (relocationKindFrom k) ≡ k
 kind-back Absolute = refl
 kind-back SymbolSize = refl
 kind-back Relative = refl

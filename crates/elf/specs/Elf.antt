@@ -1,7 +1,7 @@
--- The code's types of elf.rs and relaxation.rs as the rules have them. Assumes nothing.
+-- The code's types of elf.rs as the rules have them. Assumes nothing.
 use mathlib.Core.Bool.{Bool, true, false, cond}
 use Prim.Native.Nat.{ℕ}
-use lib.IntN.{ℤ, pos}
+use lib.IntN.{pos}
 use Rattle.rules.specs.Range as rules
 use Rattle.rules.specs.Range.{Range, within, unchecked, signed, unsigned}
 use Rattle.rules.specs.Types as rules-types
@@ -16,8 +16,6 @@ use Rattle.elf.specs.declared.RelocationKind.the-variants as kind
 use Rattle.elf.specs.declared.DynamicRelocationKind.{DynamicRelocationKind}
 use Rattle.elf.specs.declared.DynamicRelocationKind.the-variants as dynamic
 use Rattle.elf.specs.declared.RelocationKindInfo.{RelocationKindInfo}
-use Rattle.elf.specs.declared.RelocationModifier.{RelocationModifier}
-use Rattle.elf.specs.declared.RelocationModifier.the-variants.{Normal, SkipNextRelocation}
 
 abbrev pub signOf : Sign → rules.Sign
 signOf Signed = signed
@@ -30,60 +28,49 @@ widthOf Four = 4
 widthOf Eight = 8
 
 -- a range as the code has it: a flag, and the ends or 0
-abbrev pub isChecked : Range → Bool
-isChecked (within min max) = true
-isChecked unchecked = false
-
-abbrev pub minOf : Range → ℤ
-minOf (within min max) = min
-minOf unchecked = pos 0
-
-abbrev pub maxOf : Range → ℤ
-maxOf (within min max) = max
-maxOf unchecked = pos 0
-
 abbrev pub rangeFrom : Range → AllowedRange
-rangeFrom r = record { checked = isChecked r; min = minOf r; max = maxOf r }
+rangeFrom (within min max) = record { checked = true; min = min; max = max }
+rangeFrom unchecked = record { checked = false; min = pos 0; max = pos 0 }
 
 -- the range that any value of the code's type stands for
 abbrev pub rangeOf : AllowedRange → Range
 rangeOf r = cond (r .checked) (within (r .min) (r .max)) unchecked
 
-abbrev pub kindOf : RelocationKind → Kind
-kindOf kind.Absolute = rules-types.Absolute
-kindOf kind.SymbolSize = rules-types.SymbolSize
-kindOf kind.Relative = rules-types.Relative
-kindOf kind.SymRelGotBase = rules-types.SymRelGotBase
-kindOf kind.GotRelGotBase = rules-types.GotRelGotBase
-kindOf kind.PltRelGotBase = rules-types.PltRelGotBase
-kindOf kind.PltRelative = rules-types.PltRelative
-kindOf kind.GotRelative = rules-types.GotRelative
-kindOf kind.TlsGd = rules-types.TlsGd
-kindOf kind.TlsLd = rules-types.TlsLd
-kindOf kind.DtpOff = rules-types.DtpOff
-kindOf kind.GotTpOff = rules-types.GotTpOff
-kindOf kind.TpOff = rules-types.TpOff
-kindOf kind.TlsDesc = rules-types.TlsDesc
-kindOf kind.TlsDescCall = rules-types.TlsDescCall
-kindOf kind.None = rules-types.None
+abbrev pub relocationKindOf : RelocationKind → Kind
+relocationKindOf kind.Absolute = rules-types.Absolute
+relocationKindOf kind.SymbolSize = rules-types.SymbolSize
+relocationKindOf kind.Relative = rules-types.Relative
+relocationKindOf kind.SymRelGotBase = rules-types.SymRelGotBase
+relocationKindOf kind.GotRelGotBase = rules-types.GotRelGotBase
+relocationKindOf kind.PltRelGotBase = rules-types.PltRelGotBase
+relocationKindOf kind.PltRelative = rules-types.PltRelative
+relocationKindOf kind.GotRelative = rules-types.GotRelative
+relocationKindOf kind.TlsGd = rules-types.TlsGd
+relocationKindOf kind.TlsLd = rules-types.TlsLd
+relocationKindOf kind.DtpOff = rules-types.DtpOff
+relocationKindOf kind.GotTpOff = rules-types.GotTpOff
+relocationKindOf kind.TpOff = rules-types.TpOff
+relocationKindOf kind.TlsDesc = rules-types.TlsDesc
+relocationKindOf kind.TlsDescCall = rules-types.TlsDescCall
+relocationKindOf kind.None = rules-types.None
 
-abbrev pub kindFrom : Kind → RelocationKind
-kindFrom rules-types.Absolute = kind.Absolute
-kindFrom rules-types.SymbolSize = kind.SymbolSize
-kindFrom rules-types.Relative = kind.Relative
-kindFrom rules-types.SymRelGotBase = kind.SymRelGotBase
-kindFrom rules-types.GotRelGotBase = kind.GotRelGotBase
-kindFrom rules-types.PltRelGotBase = kind.PltRelGotBase
-kindFrom rules-types.PltRelative = kind.PltRelative
-kindFrom rules-types.GotRelative = kind.GotRelative
-kindFrom rules-types.TlsGd = kind.TlsGd
-kindFrom rules-types.TlsLd = kind.TlsLd
-kindFrom rules-types.DtpOff = kind.DtpOff
-kindFrom rules-types.GotTpOff = kind.GotTpOff
-kindFrom rules-types.TpOff = kind.TpOff
-kindFrom rules-types.TlsDesc = kind.TlsDesc
-kindFrom rules-types.TlsDescCall = kind.TlsDescCall
-kindFrom rules-types.None = kind.None
+abbrev pub relocationKindFrom : Kind → RelocationKind
+relocationKindFrom rules-types.Absolute = kind.Absolute
+relocationKindFrom rules-types.SymbolSize = kind.SymbolSize
+relocationKindFrom rules-types.Relative = kind.Relative
+relocationKindFrom rules-types.SymRelGotBase = kind.SymRelGotBase
+relocationKindFrom rules-types.GotRelGotBase = kind.GotRelGotBase
+relocationKindFrom rules-types.PltRelGotBase = kind.PltRelGotBase
+relocationKindFrom rules-types.PltRelative = kind.PltRelative
+relocationKindFrom rules-types.GotRelative = kind.GotRelative
+relocationKindFrom rules-types.TlsGd = kind.TlsGd
+relocationKindFrom rules-types.TlsLd = kind.TlsLd
+relocationKindFrom rules-types.DtpOff = kind.DtpOff
+relocationKindFrom rules-types.GotTpOff = kind.GotTpOff
+relocationKindFrom rules-types.TpOff = kind.TpOff
+relocationKindFrom rules-types.TlsDesc = kind.TlsDesc
+relocationKindFrom rules-types.TlsDescCall = kind.TlsDescCall
+relocationKindFrom rules-types.None = kind.None
 
 -- a kind's place in the Rust's order, from 0
 abbrev pub dynamicNumber : DynamicRelocationKind → ℕ
@@ -98,35 +85,20 @@ dynamicNumber dynamic.Absolute = 7
 dynamicNumber dynamic.GotEntry = 8
 dynamicNumber dynamic.JumpSlot = 9
 
--- a row of the lookup as the code has it
+-- a row of the lookup as the code has it, with what is the same in every row
 abbrev pub infoFrom : Row → RelocationKindInfo
 infoFrom r =
     record {
-      kind = kindFrom (r .kind);
+      kind = relocationKindFrom (r .kind);
       size = record { «byte_size» = r .size };
-      mask = r .mask;
+      mask = false;
       range = rangeFrom (r .range);
-      alignment = r .alignment;
-      bias = r .bias;
-      thunkable = r .thunkable;
-      «implicit_addend» = r .implicit-addend;
+      alignment = 1;
+      bias = false;
+      thunkable = false;
+      «implicit_addend» = false;
     }
 
 -- and back
 abbrev pub rowOf : RelocationKindInfo → Row
-rowOf i =
-    record {
-      kind = kindOf (i .kind);
-      size = i .size .«byte_size»;
-      range = rangeOf (i .range);
-      mask = i .mask;
-      alignment = i .alignment;
-      bias = i .bias;
-      thunkable = i .thunkable;
-      implicit-addend = i .«implicit_addend»;
-    }
-
--- whether the next record is skipped
-abbrev pub skips : RelocationModifier → Bool
-skips Normal = false
-skips SkipNextRelocation = true
+rowOf i = record { kind = relocationKindOf (i .kind); size = i .size .«byte_size»; range = rangeOf (i .range) }

@@ -1,8 +1,9 @@
-// elf.rs and relaxation.rs, as far as x86-64 uses them.
+// elf.rs, as far as x86-64 uses them.
 ghost use mathlib.Core.Path.{_≡_};
 ghost use Rattle.rules.specs.Range.{unchecked, within, contains, byteRange, signed64, Keeps};
 ghost use Rattle.rules.specs.Types.{dynamicType, kindNumber};
-ghost use Rattle.elf.specs.Elf.{rangeOf, rangeFrom, widthOf, signOf, kindOf, dynamicNumber, skips};
+ghost use Rattle.rules.specs.Psabi.{DynamicNames};
+ghost use Rattle.elf.specs.Elf.{rangeOf, rangeFrom, widthOf, signOf, relocationKindOf, dynamicNumber};
 
 pub enum Sign {
     Signed,
@@ -47,7 +48,7 @@ pub enum RelocationKind {
 impl RelocationKind {
     // The kind's place among these sixteen, from 0.
     pub fn number(self) -> u8
-        ensures { λ r. ⌜ r ≡ kindNumber (kindOf self) ⌝ }
+        ensures { λ r. ⌜ r ≡ kindNumber (relocationKindOf self) ⌝ }
     {
         match self {
             RelocationKind::Absolute => 0,
@@ -86,6 +87,7 @@ pub enum DynamicRelocationKind {
 impl DynamicRelocationKind {
     pub fn x86_64_r_type(self) -> u32
         ensures { λ r. ⌜ r ≡ dynamicType (dynamicNumber self) ⌝ }
+        ensures { λ _. ⌜ DynamicNames ⌝ }
     {
         match self {
             DynamicRelocationKind::Copy => object::R_X86_64_COPY,
@@ -196,21 +198,4 @@ pub struct RelocationKindInfo {
     pub bias: bool,
     pub thunkable: bool,
     pub implicit_addend: bool,
-}
-
-// relaxation.rs
-pub enum RelocationModifier {
-    Normal,
-    SkipNextRelocation,
-}
-
-impl RelocationModifier {
-    pub fn is_skip(self) -> bool
-        ensures { λ r. ⌜ r ≡ skips self ⌝ }
-    {
-        match self {
-            RelocationModifier::Normal => false,
-            RelocationModifier::SkipNextRelocation => true,
-        }
-    }
 }

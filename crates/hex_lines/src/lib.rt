@@ -3,9 +3,9 @@
 use libc::STDOUT_FILENO;
 ghost use mathlib.Core.Path.{_≡_};
 ghost use mathlib.Core.Bool.{cond};
-ghost use Prim.Native.Nat.{ℕ, _+_, _%_, _^_, _<_};
-ghost use lib.ListN.{length, getD};
-ghost use Rattle.hex_lines.specs.Hex.{digitOf, byteAt, fourAt, eightAt};
+ghost use Prim.Native.Nat.{_+_, _%_, _^_, _<_};
+ghost use lib.ListN.{length};
+ghost use Rattle.hex_lines.specs.Hex.{digitOf, byteAt, bytesFrom, fourAt, eightAt, Says};
 
 // The value of a hexadecimal digit, or 0.
 fn digit(b: u8) -> u8
@@ -68,7 +68,7 @@ pub fn u64_at(line: &[u8], at: usize) -> u64
 
 // Fills `out` with the bytes from `at` on, 0 past the line's end.
 pub fn bytes_at(line: &[u8], at: usize, out: &mut [u8])
-    ensures { λ _. ⌜ ((k : ℕ) → k < length (now (out .entry)) → getD (now (out .exit)) k 0 ≡ byteAt (now (line .entry)) (at + k)) ⌝ }
+    ensures { λ _. ⌜ now (out .exit) ≡ bytesFrom (now (line .entry)) at (length (now (out .entry))) ⌝ }
 {
     let mut i = 0;
     while i < out.len() {
@@ -88,9 +88,24 @@ pub fn more(count: u64, agrees: bool) -> u64
     }
 }
 
-pub fn print_count(name: &[u8], count: u64) {
+// The digits of a number in decimal: the first `len`.
+pub struct Decimal {
+    pub digits: [u8; 20],
+    pub len: usize,
+}
+
+// Prints a line, `NAME COUNT`, and answers the digits that it printed.
+pub fn print_count(name: &[u8], count: u64) -> Decimal
+    ensures { λ r. ⌜ Says r count ⌝ }
+{
+    let mut digits = [0u8; 20];
+    let len = io::decimal(count, &mut digits);
     io::write_all(STDOUT_FILENO, name);
     io::write_all(STDOUT_FILENO, b" ");
-    io::print_decimal(STDOUT_FILENO, count);
+    io::write_all(STDOUT_FILENO, &digits[..len]);
     io::write_all(STDOUT_FILENO, b"\n");
+    Decimal {
+        digits: digits,
+        len: len,
+    }
 }

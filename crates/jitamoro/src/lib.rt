@@ -4,35 +4,38 @@
 ghost use mathlib.Core.Path.{_≡_};
 ghost use mathlib.Core.Bool.{cond};
 ghost use lib.ListN.{length};
-ghost use Rattle.rules.specs.Record.{outputKind, flagNumber};
+ghost use Rattle.x86_64_kind.specs.Kinds.{skips, numbered};
+ghost use Rattle.rules.specs.Record.{linkLimit, relocation, outputKind, flagNumber};
 ghost use Rattle.rules.specs.Range.{contains, within, unchecked};
 ghost use Rattle.rules.specs.Types.{lookup, dynamicType};
 ghost use Rattle.rules.specs.Plt.{pltAnswer, pltBytes, padding};
-ghost use Rattle.rules.specs.Kinds.{skips};
 ghost use Rattle.rules.specs.Choose.{choosing};
 ghost use Rattle.rules.specs.Rewrite.{rewriting, afterRewriting, relaxing, afterRelaxing};
-ghost use Rattle.relaxation_kind.specs.Kind.{numbered};
-ghost use Rattle.pass.specs.Pass.{relocation, freshPass, stepping, passAfter, bytesAfter, ending, endedPass};
+ghost use Rattle.rules.specs.Meaning.{SameMeaning};
+ghost use Rattle.elf_x86_64_relaxation.specs.Choices.{choiceOf};
+ghost use Rattle.x86_64_apply.specs.Apply.{appliedOf};
+ghost use Rattle.relax.specs.Answers.{relaxedOf};
+ghost use Rattle.pass.specs.Pass.{freshPass};
+ghost use Rattle.pass.specs.Answers.{step, ended};
 ghost use Rattle.table_answers.specs.Layout.{outputLayout, flagsLayout, relocationLayout};
-ghost use Rattle.record_answers.specs.Layout.{choiceLayout, movedLayout, relaxedLayout, KeepsMeaning};
-ghost use Rattle.pass_answers.specs.Layout.{stepLayout, endLayout};
+ghost use Rattle.answers.specs.Layout.{choiceLayout, movedLayout, relaxedLayout, stepLayout, endLayout};
 ghost use Rattle.jitamoro.specs.Refusal.{refusalNumber};
-use elf_x86_64::PltEntry;
+use answers::ChoiceAnswer;
+use answers::EndAnswer;
+use answers::MovedAnswer;
+use answers::RelaxedAnswer;
+use answers::StepAnswer;
+use elf_x86_64_plt::PltEntry;
 use pass::Pass;
-use pass_answers::EndAnswer;
-use pass_answers::StepAnswer;
-use record_answers::ChoiceAnswer;
-use record_answers::MovedAnswer;
-use record_answers::RelaxedAnswer;
-use relaxation_kind::RelaxationKind;
+use rules::Relocation;
 use table_answers::OutputKindAnswer;
 use table_answers::RelocationAnswer;
 use table_answers::ValueFlagsAnswer;
+use x86_64_kind::RelaxationKind;
 
 // ---- One record
 
-// Relaxes one record in its section. Refusals 1, 2, 3, 4, 6. Its contract ends with demand 3, same
-// meaning, of what the call did.
+// Relaxes one record in its section. Refusals 1, 2, 3, 4, 6.
 #[no_mangle]
 pub extern "C" fn jitamoro_relax(
     r_type: u32,
@@ -44,21 +47,23 @@ pub extern "C" fn jitamoro_relax(
     address: u64,
     addend: i64,
 ) -> RelaxedAnswer
-    ensures { λ r. ⌜ r ≡ relaxedLayout (relaxing (now (section .entry)) offset flags «output_kind» address addend «r_type» executable) ⌝ }
-    ensures { λ _. ⌜ now (section .exit) ≡ afterRelaxing (now (section .entry)) (relaxing (now (section .entry)) offset flags «output_kind» address addend «r_type» executable) ⌝ }
-    ensures { λ r. ⌜ KeepsMeaning «r_type» (now (section .entry)) offset r (now (section .exit)) ⌝ }
+    ensures { λ r. ⌜ r ≡ relaxedLayout (relaxedOf (relaxing linkLimit (now (section .entry)) (relocation «r_type» offset flags «output_kind» executable address addend))) ⌝ }
+    ensures { λ _. ⌜ now (section .exit) ≡ afterRelaxing (now (section .entry)) (relaxing linkLimit (now (section .entry)) (relocation «r_type» offset flags «output_kind» executable address addend)) ⌝ }
+    ensures { λ _. ⌜ SameMeaning (now (section .entry)) ⌝ }
 {
     let relaxed = quick::relax(
-        r_type,
         section,
-        offset,
-        flags,
-        output_kind,
-        executable,
-        address,
-        addend,
+        Relocation {
+            r_type,
+            offset,
+            flags,
+            output_kind,
+            executable,
+            address,
+            addend,
+        },
     );
-    record_answers::relaxed_answer(relaxed)
+    answers::relaxed_answer(relaxed)
 }
 
 // Chooses a relaxation for one record. Refusals 1, 2, 3, 4.
@@ -73,19 +78,21 @@ pub extern "C" fn jitamoro_new_relaxation(
     address: u64,
     addend: i64,
 ) -> ChoiceAnswer
-    ensures { λ r. ⌜ r ≡ choiceLayout (choosing (now (section .entry)) offset flags «output_kind» address addend «r_type» executable) ⌝ }
+    ensures { λ r. ⌜ r ≡ choiceLayout (choiceOf (choosing linkLimit (now (section .entry)) (relocation «r_type» offset flags «output_kind» executable address addend))) ⌝ }
 {
     let choice = quick::new_relaxation(
-        r_type,
         section,
-        offset,
-        flags,
-        output_kind,
-        executable,
-        address,
-        addend,
+        Relocation {
+            r_type,
+            offset,
+            flags,
+            output_kind,
+            executable,
+            address,
+            addend,
+        },
     );
-    record_answers::choice_answer(choice)
+    answers::choice_answer(choice)
 }
 
 // Rewrites by a kind, whatever was chosen. Refusals 1, 2, 5, 6; 5 too where there is no such kind.
@@ -97,12 +104,13 @@ pub extern "C" fn jitamoro_apply(
     offset: u64,
     addend: i64,
 ) -> MovedAnswer
-    ensures { λ r. ⌜ r ≡ movedLayout (rewriting (numbered kind «inst_offset») (now (section .entry)) offset addend) ⌝ }
-    ensures { λ _. ⌜ now (section .exit) ≡ afterRewriting (now (section .entry)) (rewriting (numbered kind «inst_offset») (now (section .entry)) offset addend) ⌝ }
+    ensures { λ r. ⌜ r ≡ movedLayout (appliedOf (rewriting linkLimit (numbered kind «inst_offset») (now (section .entry)) offset addend)) ⌝ }
+    ensures { λ _. ⌜ now (section .exit) ≡ afterRewriting (now (section .entry)) (rewriting linkLimit (numbered kind «inst_offset») (now (section .entry)) offset addend) ⌝ }
+    ensures { λ _. ⌜ SameMeaning (now (section .entry)) ⌝ }
 {
     let relaxation_kind = RelaxationKind::from_number(kind, inst_offset);
-    let applied = rewriting::apply(relaxation_kind, section, offset, addend);
-    record_answers::moved_answer(applied)
+    let applied = x86_64_apply::apply(relaxation_kind, section, offset, addend);
+    answers::moved_answer(applied)
 }
 
 // Whether the relocation after one relaxed by a kind is skipped, by the kind's number; no where there is no such kind.
@@ -124,8 +132,7 @@ pub extern "C" fn jitamoro_pass_fresh() -> Pass
     Pass::fresh()
 }
 
-// Takes one record. Refusals 21, 1, 2, 3, 4, 22, 6, 23, which change nothing. Its contract ends with
-// demand 3, same meaning, of what the step did.
+// Takes one record. Refusals 21, 1, 2, 3, 4, 22, 6, 23, which change nothing.
 #[no_mangle]
 pub extern "C" fn jitamoro_pass_step(
     pass: Pass,
@@ -138,30 +145,31 @@ pub extern "C" fn jitamoro_pass_step(
     address: u64,
     addend: i64,
 ) -> StepAnswer
-    ensures { λ r. ⌜ r ≡ stepLayout (passAfter pass offset (stepping pass (now (section .entry)) (relocation offset flags «output_kind» address addend «r_type» executable))) (stepping pass (now (section .entry)) (relocation offset flags «output_kind» address addend «r_type» executable)) ⌝ }
-    ensures { λ _. ⌜ now (section .exit) ≡ bytesAfter (now (section .entry)) (stepping pass (now (section .entry)) (relocation offset flags «output_kind» address addend «r_type» executable)) ⌝ }
-    ensures { λ r. ⌜ KeepsMeaning «r_type» (now (section .entry)) offset (r .relaxed) (now (section .exit)) ⌝ }
+    ensures { λ r. ⌜ r ≡ stepLayout (step pass (now (section .entry)) (relocation «r_type» offset flags «output_kind» executable address addend) .stepped) ⌝ }
+    ensures { λ _. ⌜ now (section .exit) ≡ step pass (now (section .entry)) (relocation «r_type» offset flags «output_kind» executable address addend) .section ⌝ }
+    ensures { λ _. ⌜ SameMeaning (now (section .entry)) ⌝ }
 {
     let stepped = pass.step(
-        r_type,
         section,
-        offset,
-        flags,
-        output_kind,
-        executable,
-        address,
-        addend,
+        Relocation {
+            r_type,
+            offset,
+            flags,
+            output_kind,
+            executable,
+            address,
+            addend,
+        },
     );
-    pass_answers::step_answer(stepped)
+    answers::step_answer(stepped)
 }
 
 // Ends a pass: 0, or refusal 21 or 24, which change nothing.
 #[no_mangle]
 pub extern "C" fn jitamoro_pass_end(pass: Pass) -> EndAnswer
-    ensures { λ r. ⌜ r ≡ endLayout (endedPass pass (ending pass)) (ending pass) ⌝ }
+    ensures { λ r. ⌜ r ≡ endLayout (ended pass) ⌝ }
 {
-    let ended = pass.end();
-    pass_answers::end_answer(ended)
+    answers::end_answer(pass.end())
 }
 
 // ---- Tables
@@ -224,7 +232,7 @@ pub extern "C" fn jitamoro_write_plt_entry(
     ensures { λ r. ⌜ r ≡ refusalNumber (pltAnswer (now («plt_entry» .entry)) «got_address» «plt_address») ⌝ }
     ensures { λ _. ⌜ now («plt_entry» .exit) ≡ pltBytes (now («plt_entry» .entry)) «got_address» «plt_address» ⌝ }
 {
-    match elf_x86_64::write_plt_entry(plt_entry, got_address, plt_address) {
+    match elf_x86_64_plt::write_plt_entry(plt_entry, got_address, plt_address) {
         PltEntry::Written => 0,
         PltEntry::Refused(n) => n,
     }
@@ -235,5 +243,5 @@ pub extern "C" fn jitamoro_write_plt_entry(
 pub extern "C" fn jitamoro_fill_section_padding(buf: &mut [u8], executable: bool)
     ensures { λ _. ⌜ now (buf .exit) ≡ padding executable (length (now (buf .entry))) ⌝ }
 {
-    elf_x86_64::fill_section_padding(buf, executable);
+    elf_x86_64_plt::fill_section_padding(buf, executable);
 }

@@ -1,7 +1,8 @@
--- Rules of tests: a negation twice, and `&&` and `||` with a known side.
+-- Rules of tests: a negation twice, `&&` and `||` with a known side, and what follows from a test that holds.
 -- Assumes nothing.
 use mathlib.Core.Path.{_≡_, refl}
 use mathlib.Core.Bool.{Bool, true, false, not, _&&_, _||_, false≢true}
+use lib.Dec.{T}
 
 pub not-not : (b : Bool) → not (not b) ≡ b
 not-not true = refl
@@ -26,3 +27,19 @@ or-false false = refl
 pub both : (a b : Bool) → (a && b) ≡ true → (a ≡ true) × (b ≡ true)
 both true b e = (refl, e)
 both false b e = (e, absurd (false≢true e))
+
+pub and-left : (a b : Bool) → T (a && b) → T a
+and-left true b t = tt
+and-left false b t = t
+
+pub and-right : (a b : Bool) → T (a && b) → T b
+and-right true b t = t
+and-right false b t = absurd t
+
+pub parts : {P : Type 0} (a b : Bool) → (T a → T b → P) → T (a && b) → P
+parts true b f t = f tt t
+parts false b f t = absurd t
+
+pub either : {P : Type 0} (a b : Bool) → (T a → P) → (T b → P) → T (a || b) → P
+either true b f g t = f tt
+either false b f g t = g t

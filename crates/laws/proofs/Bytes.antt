@@ -8,18 +8,11 @@ use native.Mathlib.Omega.{arith}
 use borrow.Author.Tests.{eqb-true, eqb-false}
 use lib.Dec.{T, eqb, eqb→eq}
 use lib.Bits.{bitAnd, bitOr, and-mask, or-shifted-r}
+use Rattle.laws.proofs.Bools.{and-left, and-right}
 
 abbrev pub every : (ℕ → Bool) → ℕ → Bool
 every f zero = true
 every f (suc n) = f n && every f n
-
-left : (a b : Bool) → T (a && b) → T a
-left true b t = tt
-left false b t = t
-
-right : (a b : Bool) → T (a && b) → T b
-right true b t = t
-right false b t = absurd t
 
 -- what holds at the last number and at all before it holds at each
 pick : (f : ℕ → Bool) (n b : ℕ) → T (f n) → (b < n → T (f b)) → b < suc n → (q : Bool) → eqb b n ≡ q → T (f b)
@@ -29,7 +22,7 @@ pick f n b top below h false e = below (omega (arith, eqb-false b n e))
 at : (f : ℕ → Bool) (n : ℕ) → T (every f n) → (b : ℕ) → b < n → T (f b)
 at f zero t b h = absurd (not-suc-le-zero h)
 at f (suc n) t b h =
-    pick f n b (left (f n) (every f n) t) (at f n (right (f n) (every f n) t) b) h (eqb b n) refl
+    pick f n b (and-left (f n) (every f n) t) (at f n (and-right (f n) (every f n) t) b) h (eqb b n) refl
 
 -- two functions that a test of all bytes finds equal are equal at each byte
 pub same : (f g : ℕ → ℕ) → T (every (λ b. eqb (f b) (g b)) 256) → (b : ℕ) → b < 256 → f b ≡ g b

@@ -1,12 +1,12 @@
 -- What the last arm of a `match` on a number knows: the number is none of the keys of the arms before it.
 -- Assumes nothing.
-use mathlib.Core.Path.{_≡_, refl, _∙_}
+use mathlib.Core.Path.{_≡_, refl, _∙_, sym, subst}
 use mathlib.Core.Bool.{Bool, true, false}
-use mathlib.Core.List.{List, [], _∷_}
-use Prim.Native.Nat.{ℕ, zero, suc, _≤_, zero-le}
+use mathlib.Core.List.{List, [], _∷_, map}
+use Prim.Native.Nat.{ℕ, zero, suc, _<_, _≤_, zero-le}
 use native.Mathlib.Omega.{arith}
-use lib.Dec.{T, eqb}
-use borrow.Author.Tests.{ne-eqb, eqb-true}
+use lib.Dec.{T, eqb, eqb→eq}
+use borrow.Author.Tests.{ne-eqb, eqb-true, eqb-false}
 
 -- the arm's own tuple, nested to the left: the keys in the opposite order of the arms
 abbrev pub Away : ℕ → List ℕ → Type 0
@@ -38,3 +38,15 @@ down (suc n) = n ∷ down n
 pub at-least : (n t : ℕ) → Away t (down n) → n ≤ t
 at-least zero t a = zero-le
 at-least (suc n) t a = let h = at-least n t (a .0) in let k = a .1 in omega arith
+
+-- two functions that a computed test finds equal below n are equal at each number below n
+pub at-down : {A : Type 0} (f g : ℕ → A) (n : ℕ) → map f (down n) ≡ map g (down n) → (k : ℕ) → k < n → f k ≡ g k
+at-down f g zero e k h = absurd (omega arith)
+at-down f g (suc n) e k h = go (eqb k n) refl (at-down f g n (cc) k) where
+  go : (b : Bool) → eqb k n ≡ b → (k < n → f k ≡ g k) → f k ≡ g k
+  go true p below = rw (eqb-true k n p) (cc)
+  go false p below = below (omega (arith, eqb-false k n p))
+
+-- what holds at a number holds at one that a test finds equal to it
+pub is : (P : ℕ → Type 0) (n m : ℕ) → P m → T (eqb n m) → P n
+is P n m p t = subst P (sym (eqb→eq n m t)) p

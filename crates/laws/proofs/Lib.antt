@@ -1,3 +1,4 @@
 pub mod Keys
 pub mod Bytes
 pub mod Bools
+pub mod Stores

@@ -1,43 +1,76 @@
--- The code's values as the machine's. Assumes nothing.
+-- The code's values as the machine's and back. Assumes nothing.
 use mathlib.Core.Path.{_≡_}
 use mathlib.Core.Bool.{Bool, true, false, cond}
 use mathlib.Core.List.{List}
-use Prim.Native.Nat.{ℕ, _+_, _%_}
-use lib.Dec.{ltb}
+use Prim.Native.Nat.{ℕ, _+_, _-_, _%_, _<_}
+use lib.Dec.{eqb, ltb}
 use lib.ListN.{getD}
 use Rattle.rules.specs.Machine as machine
-use Rattle.machine_step.specs.declared.Op.{Op}
-use Rattle.machine_step.specs.declared.Op.the-variants.{Mov, Add, Sub, Cmp}
-use Rattle.machine_step.specs.declared.Source.{Source}
-use Rattle.machine_step.specs.declared.Source.the-variants.{Slot, Imm, Addr}
 use Rattle.machine_step.specs.declared.Form.{Form}
-use Rattle.machine_step.specs.declared.Form.the-variants.{Bad, Alu, Call, Jump}
 use Rattle.machine_step.specs.declared.Flags.{Flags}
 use Rattle.machine_step.specs.declared.Stepped.{Stepped}
 
-abbrev pub opOf : Op → machine.Op
-opOf Mov = machine.mov
-opOf Add = machine.add
-opOf Sub = machine.sub
-opOf Cmp = machine.cmp
+-- ---- a form in the code's layout, and back
 
-abbrev pub sourceOf : Source → machine.Source
-sourceOf Slot = machine.slot
-sourceOf Imm = machine.imm
-sourceOf Addr = machine.addr
+abbrev pub flat : ℕ → Bool → Bool → ℕ → ℕ → ℕ → Bool → ℕ → Form
+flat a o w t k f b n =
+    record { action = a; sub = o; wide = w; target = t; first = k; source = f; sets = b; long = n }
 
-abbrev pub formOf : Form → machine.Form
-formOf Bad = machine.bad
-formOf (Alu o w k f h) = machine.alu (opOf o) w k (sourceOf f) h
-formOf (Call f h) = machine.call (sourceOf f) h
-formOf (Jump f h) = machine.jump (sourceOf f) h
+-- sources and actions in the order of the machine's; 32 for no target
+abbrev pub sourceNumber : machine.Source → ℕ
+sourceNumber machine.slot = 0
+sourceNumber machine.imm = 1
+sourceNumber machine.addr = 2
+
+abbrev pub targetNumber : machine.Target → ℕ
+targetNumber machine.nowhere = 32
+targetNumber (machine.into k) = k
+
+abbrev pub isSub : machine.Op → Bool
+isSub machine.add = false
+isSub machine.sub = true
+
+abbrev pub layout : machine.Form → Form
+layout x = by (x .action) (x .long) where
+  by : machine.Action → ℕ → Form
+  by machine.bad n = flat 0 false false 0 0 0 false n
+  by (machine.move w k f) n = flat 1 false w k 0 (sourceNumber f) false n
+  by (machine.alu o w t k f b) n = flat 2 (isSub o) w (targetNumber t) k (sourceNumber f) b n
+  by (machine.call f) n = flat 3 false false 0 0 (sourceNumber f) false n
+  by (machine.jump f) n = flat 4 false false 0 0 (sourceNumber f) false n
+
+abbrev pub opOf : Bool → machine.Op
+opOf sub = cond sub machine.sub machine.add
+
+abbrev pub sourceOf : ℕ → machine.Source
+sourceOf n = cond (eqb n 0) machine.slot (cond (eqb n 1) machine.imm machine.addr)
+
+abbrev pub targetOf : ℕ → machine.Target
+targetOf k = cond (ltb k 32) (machine.into k) machine.nowhere
+
+abbrev pub actionOf : Form → machine.Action
+actionOf x =
+    let f = sourceOf (x .source) in
+    cond (eqb (x .action) 1) (machine.move (x .wide) (x .target) f)
+    (cond (eqb (x .action) 2) (machine.alu (opOf (x .sub)) (x .wide) (targetOf (x .target)) (x .first) f (x .sets))
+    (cond (eqb (x .action) 3) (machine.call f) (cond (eqb (x .action) 4) (machine.jump f) machine.bad)))
+
+-- its registers are among the 32
+pub record Small (x : Form) : Type 0 where
+  pub moves : x .action ≡ 1 → x .target < 32
+  pub first : x .first < 32
+
+-- ---- flags, states and answers
 
 abbrev pub flagsOf : Flags → machine.Flags
 flagsOf f = record { cf = f .cf; pf = f .pf; af = f .af; zf = f .zf; sf = f .sf; of = f .of }
 
 -- the registers of a list, the flags, and any memory
+abbrev pub stateBy : List ℕ → machine.Flags → (ℕ → ℕ) → machine.State
+stateBy l f m = record { regs = λ k. getD l k 0; flags = f; mem = m }
+
 abbrev pub stateOf : List ℕ → Flags → (ℕ → ℕ) → machine.State
-stateOf l f m = record { regs = λ k. getD l k 0; flags = flagsOf f; mem = m }
+stateOf l f m = stateBy l (flagsOf f) m
 
 -- the memory after: what is pushed, if anything is
 abbrev pub memoryOf : Stepped → (ℕ → ℕ) → ℕ → ℕ
@@ -55,44 +88,33 @@ pub record Tidy (l : List ℕ) (f : Flags) (r : Stepped) : Type 0 where
   pub still : r .steps ≡ false → r ≡ stopped l f
   pub unpushed : r .pushes ≡ false → (r .pushed ≡ 0) × (r .at ≡ 0)
 
-abbrev pub Moved : Stepped → Type 0
-Moved r = (l : List ℕ) (f : Flags) → Tidy l f r
+-- an answer that does step, for every memory
+pub record Answers (x : (ℕ → ℕ) → machine.Result) (r : Stepped) : Type 0 where
+  pub is : (m : ℕ → ℕ) → x m ≡ answerOf r m
+  pub steps : r .steps ≡ true
+  pub unpushed : r .pushes ≡ false → (r .pushed ≡ 0) × (r .at ≡ 0)
 
--- where the slot of a form with field d lies, for an instruction at a
-abbrev pub slotAddress : machine.Form → ℕ → ℕ → ℕ
-slotAddress f d a = ((a + machine.header f + 4) % machine.word + machine.signed32 d) % machine.word
-
+-- whether an action reads its slot; where it does, memory m holds the number v there, for the field d and the address n after the instruction
 abbrev pub fromSlot : machine.Source → Bool
 fromSlot machine.slot = true
 fromSlot machine.imm = false
 fromSlot machine.addr = false
 
--- whether the form reads its slot
-abbrev pub readsSlot : machine.Form → Bool
+abbrev readsSlot : machine.Action → Bool
 readsSlot machine.bad = false
-readsSlot (machine.alu o w k f h) = fromSlot f
-readsSlot (machine.call f h) = fromSlot f
-readsSlot (machine.jump f h) = fromSlot f
+readsSlot (machine.move w k f) = fromSlot f
+readsSlot (machine.alu o w t k f b) = fromSlot f
+readsSlot (machine.call f) = fromSlot f
+readsSlot (machine.jump f) = fromSlot f
 
--- where the instruction at a reads a slot, memory m holds the number v there
-abbrev pub SlotHolds : machine.Form → ℕ → ℕ → ℕ → (ℕ → ℕ) → Type 0
-SlotHolds f d a v m = readsSlot f ≡ true → machine.read8 m (slotAddress f d a) ≡ v
+abbrev pub SlotHolds : machine.Action → ℕ → ℕ → ℕ → (ℕ → ℕ) → Type 0
+SlotHolds x d n v m = readsSlot x ≡ true → machine.read8 m ((n + machine.signed32 d) % machine.word) ≡ v
 
--- the same of the instruction that begins at byte 0 of a code at a
+-- the same of the instruction that begins a code at address a
 abbrev pub codeSlot : List ℕ → ℕ → ℕ
 codeSlot code a =
-    let f = machine.decodeAt code 0 in
-    slotAddress f (machine.fieldAt code (machine.header f)) a
-
-abbrev pub codeReadsSlot : List ℕ → Bool
-codeReadsSlot code = readsSlot (machine.decodeAt code 0)
+    let n = machine.decode code .long in
+    ((a + n) % machine.word + machine.signed32 (machine.fieldAt code (n - 4))) % machine.word
 
 abbrev pub CodeSlotHolds : List ℕ → ℕ → ℕ → (ℕ → ℕ) → Type 0
-CodeSlotHolds code a v m = codeReadsSlot code ≡ true → machine.read8 m (codeSlot code a) ≡ v
-
--- the register of a form is one of the 32
-abbrev pub fit : machine.Form → Bool
-fit machine.bad = true
-fit (machine.alu o w k f h) = ltb k 32
-fit (machine.call f h) = true
-fit (machine.jump f h) = true
+CodeSlotHolds code a v m = readsSlot (machine.decode code .action) ≡ true → machine.read8 m (codeSlot code a) ≡ v

@@ -1,168 +1,112 @@
--- A step by its verdict is the step that the rules have, with the pass and the section afterwards and demand 3: one law for each way that
--- a step ends.
+-- A step by its verdict is the step that the rules have, with the pass and the section afterwards: one law for each way that a step ends.
 -- Assumes nothing.
-use mathlib.Core.Path.{_≡_, refl, sym, subst, ap, _∙_}
+use mathlib.Core.Path.{_≡_, refl, sym, subst}
 use mathlib.Core.Bool.{Bool, true, false, cond, false≢true}
 use mathlib.Core.List.{List}
 use Prim.Native.Nat.{ℕ}
 use lib.Dec.{ltb}
-use lib.IntN.{ℤ}
 use lib.ListN.{length}
+use Rattle.x86_64_kind.specs.declared.RelaxationKind.{RelaxationKind}
+use Rattle.x86_64_kind.specs.Kinds.{begin, end, isEmpty, inside, skips}
+use Rattle.rules.specs.declared.Relocation.{Relocation}
 use Rattle.rules.specs.Answer.{Answer, gives, refuses}
-use Rattle.rules.specs.Kinds.{RelaxationKind, skips, fits}
-use Rattle.rules.specs.Rewrite.{Rewritten, Relaxed, unrelaxed, relaxed, rewrite, relaxChosen, relaxing, afterRelaxing}
+use Rattle.rules.specs.Record.{linkLimit}
+use Rattle.rules.specs.Choose.{none, chosen, choosing}
+use Rattle.rules.specs.Rewrite.{Rewritten, Relaxed, unrelaxed, relaxed, rewrite, claims, relaxChosen, relaxing, afterRelaxing}
+use Rattle.rules.specs.Meaning.{SameMeaning}
 use Rattle.rules.proofs.Theorem.{same-meaning}
-use Rattle.relaxation_kind.specs.Kind.{kindOf}
-use Rattle.relaxation.specs.declared.Relaxation.{Relaxation}
-use Rattle.choice.specs.declared.Choice.{Choice}
-use Rattle.choice.specs.Choices.{choiceOf}
-use Rattle.relax.specs.Relax.{relaxedOf, rewrittenTo}
-use Rattle.spans.specs.Windows.{isEmpty, begin, end}
-use Rattle.spans.specs.declared.Span.the-variants.{Outside, Empty, Between}
+use Rattle.elf_x86_64_relaxation.specs.declared.Choice.{Choice}
+use Rattle.elf_x86_64_relaxation.specs.Choices.{choiceOf}
+use Rattle.relax.specs.Answers.{relaxedOf}
 use Rattle.pass.specs.declared.Pass.{Pass}
-use Rattle.pass.specs.declared.Step.{Step}
 use Rattle.pass.specs.declared.Stepped.{Stepped}
 use Rattle.pass.specs.declared.Verdict.{Verdict}
 use Rattle.pass.specs.declared.Verdict.the-variants.{Refuse, Skip, Leave, Relax}
-use Rattle.pass.specs.Pass.{Relocation, choosingOf, relaxingOf, Accepted, took, skipped, checked, clearing, stepping, passAfter, bytesAfter}
-use Rattle.pass.specs.Answers.{stepOf, StepKeepsMeaning, placed, inOrder, verdictOf, tookStep, skippedStep, refusedStep}
-use Rattle.pass.proofs.Stepping.{step-relaxes}
-use Rattle.choice.specs.declared.Choice.the-variants as choice
-use Rattle.relax.specs.declared.Relaxed as relax
+use Rattle.pass.specs.Pass.{isPending, Accepted, took, skipped, checked, clearing, stepping, passAfter, bytesAfter}
+use Rattle.pass.specs.Answers.{taken, stepOf, step, placed, verdictOf, tookStep, skippedStep, refusedStep}
+use Rattle.rules.specs.Choose as rules
 use Rattle.relax.specs.declared.Relaxed.the-variants as answer
 
--- relaxing's answer, accepted
-abbrev accepted : Answer Relaxed → Answer Accepted
-accepted (gives x) = gives (took x)
-accepted (refuses n) = refuses n
-
-module _ (p : Pass) (off : ℕ) where
-  -- the pass once relaxing has answered, where the window's end was worked out beforehand
-  abbrev passTook : ℕ → Answer Relaxed → Pass
-  passTook w (refuses n) = p
-  passTook w (gives unrelaxed) = record { last = off; window = p .window; skip = p .skip; ended = p .ended }
-  passTook w (gives (relaxed k t m x)) = record { last = off; window = w; skip = skips k; ended = p .ended }
-
-  -- what a verdict says of a record, given relaxing's answer: the step's answer, and the pass
-  abbrev said : Verdict → Answer Relaxed → Answer Accepted
-  said (Refuse n) a = refuses n
-  said Skip a = gives skipped
-  said Leave a = gives (took unrelaxed)
-  said (Relax w) a = accepted a
-
-  abbrev left : Verdict → Answer Relaxed → Pass
-  left (Relax w) a = passTook w a
-  left (Refuse n) a = p
-  left Skip a = record { last = off; window = p .window; skip = false; ended = p .ended }
-  left Leave a = record { last = off; window = p .window; skip = p .skip; ended = p .ended }
-
-  abbrev Says : Answer Accepted → Verdict → Answer Relaxed → Type 0
-  Says s v a = (s ≡ said v a) × (passAfter p off s ≡ left v a)
-
-  -- 23, and the window's end
-  says-placed :
-      (len : ℕ) (k : RelaxationKind) (t : ℕ) (m : Bool) (y : Rewritten) (fit empty before : Bool)
-      → fits k len off ≡ fit → isEmpty k ≡ empty → ltb (begin k off) (p .window) ≡ before
-      → Says (clearing p off (cond fit (gives (relaxed k t m y)) (refuses 6))) (placed p (cond fit (cond empty Empty (Between (begin k off) (end k off))) Outside)) (cond fit (gives (relaxed k t m y)) (refuses 6))
-  unfolding clearing passAfter
-  says-placed len k t m y false empty before f e b = (refl, refl)
-  says-placed len k t m y true true before f e b = rw (e, e) (refl, refl)
-  says-placed len k t m y true false true f e b = rw (e, b) (refl, refl)
-  says-placed len k t m y true false false f e b = rw (e, b, e) (refl, refl)
-
-  -- 22, then the skip
-  says-in-order : (below skip : Bool) (s : Answer Accepted) (v : Verdict) (a : Answer Relaxed) → Says s v a → Says (cond below (refuses 22) (cond skip (gives skipped) s)) (cond below (Refuse 22) (cond skip Skip v)) a
-  unfolding passAfter
-  says-in-order true skip s v a h = (refl, refl)
-  says-in-order false true s v a h = (refl, refl)
-  says-in-order false false s v a h = h
-
-  says-choice :
-      (sec : List ℕ) (a : ℤ) (c : Choice)
-      → Says
-      (checked (choiceOf c) (cond (ltb off (p .last)) (refuses 22) (cond (p .skip) (gives skipped) (clearing p off (relaxChosen sec off a (choiceOf c))))))
-      (verdictOf p c (length sec) off)
-      (relaxChosen sec off a (choiceOf c))
-  unfolding checked relaxChosen clearing passAfter
-  says-choice sec a (choice.Refused n) = (refl, refl)
-  says-choice sec a choice.Nothing = says-in-order (ltb off (p .last)) (p .skip) (gives (took unrelaxed)) Leave (gives unrelaxed) (refl, refl)
-  says-choice sec a (choice.Chosen x) =
-      let k = kindOf (x .kind) in
-      says-in-order (ltb off (p .last)) (p .skip) _ _ _
-      (says-placed (length sec) k (x .«new_type») (x .mandatory) (rewrite k sec off a) (fits k (length sec) off) (isEmpty k) (ltb (begin k off) (p .window)) refl refl refl)
+-- what a step answers, by the rules' answer
+abbrev stepped : Pass → Relocation → Answer Accepted → Stepped
+stepped p r s = record { pass = passAfter p r s; step = stepOf s }
 
 not-ended : (b : Bool) (s : Answer Accepted) → b ≡ false → s ≡ cond b (refuses 21) s
 not-ended true s h = absurd (false≢true (sym h))
 not-ended false s h = refl
 
--- ---- the four clauses of a step
-
 module _ (p : Pass) (sec : List ℕ) (r : Relocation) where
-  abbrev pub Holds : Stepped → List ℕ → Type 0
-  Holds s new =
-      (stepOf (s .step) new ≡ stepping p sec r)
-      × ((s .pass ≡ passAfter p (r .offset) (stepping p sec r))
-      × ((new ≡ bytesAfter sec (stepping p sec r)) × StepKeepsMeaning (r .type) sec (r .offset) (s .step) new))
+  -- what the code does by a verdict, given relaxing's answer: its own answer, and the section
+  abbrev does : Verdict → Answer Relaxed → Stepped
+  does (Refuse n) a = refusedStep p n
+  does Skip a = skippedStep p r
+  does Leave a = tookStep p r 0 answer.Nothing
+  does (Relax w) a = tookStep p r w (relaxedOf a)
 
-  -- demand 3 follows of the answer
-  keeps : (s : Step) (new : List ℕ) → stepOf s new ≡ stepping p sec r → StepKeepsMeaning (r .type) sec (r .offset) s new
-  keeps s new e =
-      record {
-        alike =
-            λ c i x m q. same-meaning .relaxes (r .type) sec (r .offset) (r .flags) (r .output-kind) (r .address) (r .addend) (r .executable) c i (kindOf (x .kind)) (x .«new_type») (x .mandatory) (rewrittenTo new m) (step-relaxes p sec r _ _ _ _ (rw q at (sym e)));
-      }
+  abbrev leaves : Verdict → Answer Relaxed → List ℕ
+  leaves (Relax w) a = afterRelaxing sec a
+  leaves (Refuse n) a = sec
+  leaves Skip a = sec
+  leaves Leave a = sec
 
-  -- refused, and no byte touched
-  pub holds-refused : (n : ℕ) → stepping p sec r ≡ refuses n → Holds (refusedStep p n) sec
+  -- an answer of the rules is what the code does
+  abbrev Says : Answer Accepted → Verdict → Answer Relaxed → Type 0
+  Says s v a = (does v a ≡ stepped p r s) × (leaves v a ≡ bytesAfter sec s)
+
+  -- 6, 23, and the window's end
+  says-placed :
+      (k : RelaxationKind) (t : ℕ) (m : Bool) (y : Rewritten) (fit empty before : Bool)
+      → isEmpty (claims k t) ≡ empty → ltb (begin (claims k t) (r .offset)) (p .window) ≡ before
+      → Says (clearing p r (cond fit (gives (relaxed k t m y)) (refuses 6)))
+      (cond fit (cond empty (Relax (p .window)) (cond before (Refuse 23) (Relax (end (claims k t) (r .offset))))) (Relax (p .window)))
+      (cond fit (gives (relaxed k t m y)) (refuses 6))
+  unfolding clearing passAfter bytesAfter afterRelaxing
+  says-placed k t m y false empty before e b = (refl, refl)
+  says-placed k t m y true true before e b = rw (e, e) (refl, refl)
+  says-placed k t m y true false true e b = rw (e, b) (refl, refl)
+  says-placed k t m y true false false e b = rw (e, b, e) (refl, refl)
+
+  -- 22, then the skip
+  says-in-order : (below skip : Bool) (s : Answer Accepted) (v : Verdict) (a : Answer Relaxed) → Says s v a → Says (cond below (refuses 22) (cond skip (gives skipped) s)) (cond below (Refuse 22) (cond skip Skip v)) a
   unfolding passAfter bytesAfter
-  holds-refused n e = (sym e, (rw e, (rw e, keeps (refusedStep p n .step) sec (sym e))))
+  says-in-order true skip s v a h = (refl, refl)
+  says-in-order false true s v a h = (refl, refl)
+  says-in-order false false s v a h = h
 
-  pub ended-refuses : p .ended ≡ true → stepping p sec r ≡ refuses 21
-  unfolding stepping
-  ended-refuses h = rw h
+  says-choice : (c : Answer rules.Choice)
+      → Says
+      (checked c (cond (ltb (r .offset) (p .last)) (refuses 22) (cond (isPending p) (gives skipped) (clearing p r (relaxChosen sec r c)))))
+      (verdictOf p (choiceOf c) (length sec) r)
+      (relaxChosen sec r c)
+  unfolding checked relaxChosen clearing passAfter bytesAfter afterRelaxing
+  says-choice (refuses n) = (refl, refl)
+  says-choice (gives none) = says-in-order (ltb (r .offset) (p .last)) (isPending p) (gives (took unrelaxed)) Leave (gives unrelaxed) (refl, refl)
+  says-choice (gives (chosen k t m)) =
+      says-in-order (ltb (r .offset) (p .last)) (isPending p) _ _ _
+      (says-placed k t m (rewrite k sec (r .offset) (r .addend)) (inside (claims k t) (length sec) (r .offset)) (isEmpty (claims k t)) (ltb (begin (claims k t) (r .offset)) (p .window)) refl refl)
 
-  module _ (c : Choice) (v : Verdict) (h : p .ended ≡ false) (e : choiceOf c ≡ choosingOf sec r) (w : v ≡ verdictOf p c (length sec) (r .offset)) where
-    says : Says p (r .offset) (stepping p sec r) v (relaxingOf sec r)
-    unfolding stepping relaxing
-    says =
-        rw w (subst (λ (s : Answer Accepted). Says p (r .offset) s (verdictOf p c (length sec) (r .offset)) (relaxingOf sec r)) (not-ended (p .ended) _ h) (rw (← e) (says-choice p (r .offset) sec (r .addend) c)))
+  -- ---- the two clauses of a step
 
-    pub by-refuse : (n : ℕ) → v ≡ Refuse n → Holds (refusedStep p n) sec
-    by-refuse n q = holds-refused n (rw q at (says .0))
+  abbrev pub Holds : Stepped → List ℕ → Type 0
+  Holds s new = (taken s new ≡ step p sec r) × SameMeaning sec
 
-    pub by-skip : v ≡ Skip → Holds (skippedStep p (r .offset)) sec
-    unfolding bytesAfter
-    by-skip q =
-        let s : stepping p sec r ≡ gives skipped = rw q at (says .0) in
-        (sym s, (rw q at (sym (says .1)), (rw s, keeps (skippedStep p (r .offset) .step) sec (sym s))))
+  pub by-ended : p .ended ≡ true → Holds (refusedStep p 21) sec
+  unfolding step stepping passAfter bytesAfter
+  by-ended h = (rw h, same-meaning sec)
 
-    pub by-leave : v ≡ Leave → Holds (tookStep p (r .offset) 0 answer.Nothing) sec
-    unfolding bytesAfter afterRelaxing
-    by-leave q =
-        let s : stepping p sec r ≡ gives (took unrelaxed) = rw q at (says .0) in
-        (sym s, (rw q at (sym (says .1)), (rw s, keeps (tookStep p (r .offset) 0 answer.Nothing .step) sec (sym s))))
+  abbrev pub Follows : Verdict → Type 0
+  Follows v = Holds (does v (relaxing linkLimit sec r)) (leaves v (relaxing linkLimit sec r))
 
-    pub by-relax :
-        (n : ℕ) (a : relax.Relaxed) (new : List ℕ) → v ≡ Relax n
-        → relaxedOf a new ≡ relaxingOf sec r → new ≡ afterRelaxing sec (relaxingOf sec r)
-        → Holds (tookStep p (r .offset) n a) new
-    unfolding bytesAfter afterRelaxing
-    by-relax n a new q f g =
-        let s : stepping p sec r ≡ accepted (relaxingOf sec r) = rw q at (says .0) in
-        let t : passAfter p (r .offset) (stepping p sec r) ≡ passTook p (r .offset) n (relaxingOf sec r) = rw q at (says .1) in
-        let u : stepOf (tookStep p (r .offset) n a .step) new ≡ stepping p sec r = step-of a new ∙ ap accepted f ∙ sym s in
-        (u, (pass-of a new ∙ ap (passTook p (r .offset) n) f ∙ sym t, (g ∙ after (relaxingOf sec r) ∙ sym (ap (bytesAfter sec) s), keeps (tookStep p (r .offset) n a .step) new u)))
-      where
-        step-of : (a : relax.Relaxed) (new : List ℕ) → stepOf (tookStep p (r .offset) n a .step) new ≡ accepted (relaxedOf a new)
-        step-of answer.Nothing new = refl
-        step-of (answer.Done x m) new = refl
-        step-of (answer.Refused k) new = refl
+  -- behind 21
+  rest : Answer Accepted
+  rest =
+      checked (choosing linkLimit sec r)
+      (cond (ltb (r .offset) (p .last)) (refuses 22) (cond (isPending p) (gives skipped) (clearing p r (relaxing linkLimit sec r))))
 
-        pass-of : (a : relax.Relaxed) (new : List ℕ) → tookStep p (r .offset) n a .pass ≡ passTook p (r .offset) n (relaxedOf a new)
-        pass-of answer.Nothing new = refl
-        pass-of (answer.Done x m) new = refl
-        pass-of (answer.Refused k) new = refl
-
-        after : (a : Answer Relaxed) → afterRelaxing sec a ≡ bytesAfter sec (accepted a)
-        after (gives x) = refl
-        after (refuses k) = refl
+  pub follows : (c : Choice) → p .ended ≡ false → c ≡ choiceOf (choosing linkLimit sec r) → Follows (verdictOf p c (length sec) r)
+  unfolding step stepping relaxing rest
+  follows c h e =
+      let s = says-choice (choosing linkLimit sec r) in
+      let v = verdictOf p (choiceOf (choosing linkLimit sec r)) (length sec) r in
+      let a = relaxing linkLimit sec r in
+      rw e (subst (λ (x : Answer Accepted). taken (does v a) (leaves v a) ≡ taken (stepped p r x) (bytesAfter sec x)) (not-ended (p .ended) rest h) (rw (s .0, s .1)), same-meaning sec)

@@ -7,21 +7,23 @@ use mathlib.Core.List.{List, [], _∷_, _++_, map}
 use Prim.Native.Nat.{ℕ, zero, suc, _+_, _<_, _≤_}
 use native.Mathlib.Nat.{add-zero, le-trans, lt-of-lt-of-le, le-of-lt, le-of-suc-le-suc, not-suc-le-zero}
 use native.Mathlib.Omega.{arith}
-use lib.Dec.{leb, ltb}
+use lib.Dec.{ltb}
 use lib.ListN.{length, getD}
-use borrow.Author.Tests.{ltb-true, ltb-false, leb-true, eqb-true, eqb-false}
+use borrow.Author.Tests.{ltb-true, ltb-false, eqb-true, eqb-false}
 use Rattle.rules.specs.Answer.{Answer, gives, refuses}
-use Rattle.rules.specs.Kinds.{RelaxationKind, shapeOf, fits}
-use Rattle.rules.specs.Choose.{Choice}
-use Rattle.rules.specs.Rewrite.{Rewritten, unrelaxed, relaxed, rewritten, afterRelaxing}
-use Rattle.spans.specs.Windows.{isEmpty, begin, end}
-use Rattle.laws.proofs.Bools.{both}
-use Rattle.spans.proofs.Kept.{Kept, kept}
+use Rattle.x86_64_kind.specs.declared.RelaxationKind.{RelaxationKind}
+use Rattle.x86_64_kind.specs.declared.Window.{Window}
+use Rattle.x86_64_kind.specs.Kinds.{isEmpty, begin, end, inside}
+use Rattle.rules.specs.declared.Relocation.{Relocation}
+use Rattle.rules.specs.Record.{linkLimit}
+use Rattle.rules.specs.Choose.{Choice, choosing}
+use Rattle.rules.specs.Rewrite.{Rewritten, unrelaxed, relaxed, rewritten, claims, relaxing, afterRelaxing}
+use Rattle.x86_64_kind.proofs.Windows.{within}
+use Rattle.rules.proofs.Kept.{Kept, kept}
 use Rattle.pass.specs.declared.Pass.{Pass}
-use Rattle.pass.specs.Pass.{Relocation, choosingOf, relaxingOf, Accepted, took, skipped, overlaps, checked, clearing, stepping, passAfter, bytesAfter}
-use Rattle.pass.specs.Walk.{Walk, answer, after, stepped, walk, answers, offsetOf, offsets, Part, partOf, parts, Rising, Apart, Inside, Outside, Walks}
+use Rattle.pass.specs.Pass.{isPending, Accepted, took, skipped, overlaps, checked, clearing, stepping, passAfter, bytesAfter}
+use Rattle.pass.specs.Walk.{Walk, answer, stepped, walk, answers, offsetOf, offsets, Part, partFrom, partOf, parts, Rising, Apart, Inside, Outside, Walks}
 use Rattle.pass.proofs.Stepping.{Sound, step-sound, relaxing-rewrites}
-use Rattle.pass.proofs.Steps.{ended-refuses}
 
 -- ---- order
 
@@ -44,7 +46,7 @@ side i b = by (ltb i b) refl where
   by false e = inr (ltb-false i b e)
 
 module _ (p : Pass) (sec : List ℕ) (r : Relocation) where
-  rises : (a : Answer Accepted) (os : List ℕ) → Sound p sec r a → Rising (passAfter p (r .offset) a .last) os → Rising (p .last) (offsetOf (r .offset) a ++ os)
+  rises : (a : Answer Accepted) (os : List ℕ) → Sound p sec r a → Rising (passAfter p r a .last) os → Rising (p .last) (offsetOf (r .offset) a ++ os)
   unfolding passAfter
   rises (refuses n) os s h = h
   rises (gives skipped) os s h = (ltb-false _ _ s, h)
@@ -53,38 +55,37 @@ module _ (p : Pass) (sec : List ℕ) (r : Relocation) where
 
   -- a relaxed record's window: where it begins, and what it holds
   clears :
-      (k : RelaxationKind) (empty : Bool) (xs : List Part) → isEmpty k ≡ empty → cond empty false (ltb (begin k (r .offset)) (p .window)) ≡ false
-      → Apart (cond empty (p .window) (end k (r .offset))) xs
-      → Apart (p .window) (cond empty [] (record { from = begin k (r .offset); to = end k (r .offset) } ∷ []) ++ xs)
-  clears k true xs e o h = h
-  clears k false xs e o h =
-      let n = eqb-false (shapeOf k .size) 0 e in
-      (ltb-false _ _ o, positive (begin k (r .offset)) (shapeOf k .size) n, h)
+      (w : Window) (empty : Bool) (xs : List Part) → isEmpty w ≡ empty → cond empty false (ltb (begin w (r .offset)) (p .window)) ≡ false
+      → Apart (cond empty (p .window) (end w (r .offset))) xs
+      → Apart (p .window) (cond empty [] (record { from = begin w (r .offset); to = end w (r .offset) } ∷ []) ++ xs)
+  clears w true xs e o h = h
+  clears w false xs e o h =
+      let n = eqb-false (w .size) 0 e in
+      (ltb-false _ _ o, positive (begin w (r .offset)) (w .size) n, h)
     where
       positive : (b n : ℕ) → (n ≡ 0 → ⊥) → b < b + n
       positive b zero g = absurd (g refl)
       positive b (suc n) g = omega arith
 
-  stays-apart : (a : Answer Accepted) (xs : List Part) → Sound p sec r a → Apart (passAfter p (r .offset) a .window) xs → Apart (p .window) (partOf (r .offset) a ++ xs)
+  stays-apart : (a : Answer Accepted) (xs : List Part) → Sound p sec r a → Apart (passAfter p r a .window) xs → Apart (p .window) (partOf (r .offset) a ++ xs)
   unfolding passAfter
   stays-apart (refuses n) xs s h = h
   stays-apart (gives skipped) xs s h = h
   stays-apart (gives (took unrelaxed)) xs s h = h
-  stays-apart (gives (took (relaxed k t m x))) xs s h = clears k (isEmpty k) xs refl (s .1 .1) h
+  stays-apart (gives (took (relaxed k t m x))) xs s h = clears (claims k t) (isEmpty (claims k t)) xs refl (s .1 .1) h
 
   -- a byte lies outside a window that is empty
   misses :
-      (k : RelaxationKind) (empty : Bool) (i : ℕ) (xs : List Part) → isEmpty k ≡ empty
-      → Outside i (cond empty [] (record { from = begin k (r .offset); to = end k (r .offset) } ∷ []) ++ xs)
-      → ((i < begin k (r .offset)) ⊎ (end k (r .offset) ≤ i)) × Outside i xs
-  misses k false i xs e h = h
-  misses k true i xs e h = (rw (eqb-true (shapeOf k .size) 0 e, add-zero (begin k (r .offset))) (side i (begin k (r .offset))), h)
+      (w : Window) (empty : Bool) (i : ℕ) (xs : List Part) → isEmpty w ≡ empty
+      → Outside i (cond empty [] (record { from = begin w (r .offset); to = end w (r .offset) } ∷ []) ++ xs)
+      → ((i < begin w (r .offset)) ⊎ (end w (r .offset) ≤ i)) × Outside i xs
+  misses w false i xs e h = h
+  misses w true i xs e h = (rw (eqb-true (w .size) 0 e, add-zero (begin w (r .offset))) (side i (begin w (r .offset))), h)
 
   -- the section once a record is relaxed: rewriting keeps every byte outside the window
-  rewrites : (k : RelaxationKind) (t : ℕ) (m : Bool) (x : Rewritten) → relaxingOf sec r ≡ gives (relaxed k t m x) → Kept (begin k (r .offset)) (end k (r .offset)) sec (x .bytes)
-  rewrites k t m x e =
-      let f = relaxing-rewrites sec r k t m x e in
-      rw (f .1) (kept k sec (r .offset) (leb-true _ _ (both (leb (shapeOf k .back) (r .offset)) _ (f .0) .0)))
+  rewrites : (k : RelaxationKind) (t : ℕ) (m : Bool) (x : Rewritten) → relaxing linkLimit sec r ≡ gives (relaxed k t m x)
+      → Kept (begin (claims k t) (r .offset)) (end (claims k t) (r .offset)) sec (x .bytes)
+  rewrites k t m x e = let f = relaxing-rewrites sec r k t m x e in rw (f .1) (kept sec (r .offset) k t (within (claims k t) (length sec) (r .offset) (f .0) .0))
 
   keeps : (a : Answer Accepted) (i : ℕ) (xs : List Part) → Sound p sec r a → Outside i (partOf (r .offset) a ++ xs) → (getD (bytesAfter sec a) i 0 ≡ getD sec i 0) × Outside i xs
   unfolding bytesAfter afterRelaxing
@@ -92,19 +93,20 @@ module _ (p : Pass) (sec : List ℕ) (r : Relocation) where
   keeps (gives skipped) i xs s h = (refl, h)
   keeps (gives (took unrelaxed)) i xs s h = (refl, h)
   keeps (gives (took (relaxed k t m x))) i xs s h =
-      let g = misses k (isEmpty k) i xs refl h in
+      let g = misses (claims k t) (isEmpty (claims k t)) i xs refl h in
       (rewrites k t m x (s .1 .0) .outside i (g .0), g .1)
 
   -- and lies inside
-  within : (k : RelaxationKind) (empty : Bool) (xs : List Part) → fits k (length sec) (r .offset) ≡ true → Inside (length sec) xs → Inside (length sec) (cond empty [] (record { from = begin k (r .offset); to = end k (r .offset) } ∷ []) ++ xs)
-  within k true xs f h = h
-  within k false xs f h = (leb-true _ _ (both (leb (shapeOf k .back) (r .offset)) _ f .1), h)
+  lies-in : (w : Window) (empty : Bool) (xs : List Part) → inside w (length sec) (r .offset) ≡ true → Inside (length sec) xs
+      → Inside (length sec) (cond empty [] (record { from = begin w (r .offset); to = end w (r .offset) } ∷ []) ++ xs)
+  lies-in w true xs f h = h
+  lies-in w false xs f h = (within w (length sec) (r .offset) f .1, h)
 
   lies : (a : Answer Accepted) (xs : List Part) → Sound p sec r a → Inside (length sec) xs → Inside (length sec) (partOf (r .offset) a ++ xs)
   lies (refuses n) xs s h = h
   lies (gives skipped) xs s h = h
   lies (gives (took unrelaxed)) xs s h = h
-  lies (gives (took (relaxed k t m x))) xs s h = within k (isEmpty k) xs (relaxing-rewrites sec r k t m x (s .1 .0) .0) h
+  lies (gives (took (relaxed k t m x))) xs s h = lies-in (claims k t) (isEmpty (claims k t)) xs (relaxing-rewrites sec r k t m x (s .1 .0) .0) h
 
   sized : (a : Answer Accepted) → Sound p sec r a → length (bytesAfter sec a) ≡ length sec
   unfolding bytesAfter afterRelaxing
@@ -117,21 +119,19 @@ module _ (p : Pass) (sec : List ℕ) (r : Relocation) where
 
 works :
     (w : Walk) (r : Relocation) (c : Choice) (k : RelaxationKind) (t : ℕ) (m : Bool) (x : Rewritten)
-    → w .pass .ended ≡ false → choosingOf (w .section) r ≡ gives c → ltb (r .offset) (w .pass .last) ≡ false → w .pass .skip ≡ false
-    → relaxingOf (w .section) r ≡ gives (relaxed k t m x) → overlaps (w .pass) k (r .offset) ≡ false
+    → w .pass .ended ≡ false → choosing linkLimit (w .section) r ≡ gives c → ltb (r .offset) (w .pass .last) ≡ false → isPending (w .pass) ≡ false
+    → relaxing linkLimit (w .section) r ≡ gives (relaxed k t m x) → overlaps (w .pass) (claims k t) (r .offset) ≡ false
     → answer w r ≡ gives (took (relaxed k t m x))
 unfolding stepping checked clearing
-works w r c k t m x e h l s f o = rw (h, l, f, o) (clear (w .pass .ended) (w .pass .skip) e s) where
+works w r c k t m x e h l s f o = rw (h, l, f, o) (clear (w .pass .ended) (isPending (w .pass)) e s) where
   clear : (ended skip : Bool) → ended ≡ false → skip ≡ false → cond ended (refuses 21) (cond skip (gives skipped) (gives (took (relaxed k t m x)))) ≡ gives (took (relaxed k t m x))
   clear false false e s = refl
   clear true skip e s = absurd (false≢true (sym e))
   clear false true e s = absurd (false≢true (sym s))
 
 ended-step : (w : Walk) (r : Relocation) → w .pass .ended ≡ true → (answer w r ≡ refuses 21) × (stepped w r ≡ w)
-unfolding passAfter bytesAfter
-ended-step w r h =
-    let e = ended-refuses (w .pass) (w .section) r h in
-    (e, rw e)
+unfolding stepping passAfter bytesAfter
+ended-step w r h = (rw h, rw h)
 
 over : (w : Walk) (rs : List Relocation) → w .pass .ended ≡ true → (answers w rs ≡ map (λ _. refuses 21) rs) × (walk w rs ≡ w)
 over w [] h = (refl, refl)
@@ -153,11 +153,11 @@ apart : (w : Walk) (rs : List Relocation) → Apart (w .pass .window) (parts w r
 apart w [] = tt
 apart w (r ∷ rs) = stays-apart (w .pass) (w .section) r (answer w r) (parts (stepped w r) rs) (sound w r) (apart (stepped w r) rs)
 
-inside : (w : Walk) (rs : List Relocation) → Inside (length (w .section)) (parts w rs)
-inside w [] = tt
-inside w (r ∷ rs) =
+lies-inside : (w : Walk) (rs : List Relocation) → Inside (length (w .section)) (parts w rs)
+lies-inside w [] = tt
+lies-inside w (r ∷ rs) =
     lies (w .pass) (w .section) r (answer w r) (parts (stepped w r) rs) (sound w r)
-    (subst (λ (n : ℕ). Inside n (parts (stepped w r) rs)) (sized (w .pass) (w .section) r (answer w r) (sound w r)) (inside (stepped w r) rs))
+    (subst (λ (n : ℕ). Inside n (parts (stepped w r) rs)) (sized (w .pass) (w .section) r (answer w r) (sound w r)) (lies-inside (stepped w r) rs))
 
 held : (w : Walk) (rs : List Relocation) (i : ℕ) → Outside i (parts w rs) → getD (walk w rs .section) i 0 ≡ getD (w .section) i 0
 held w [] i h = refl
@@ -204,7 +204,7 @@ walks =
       rising = rising;
       apart = apart;
       no-overlap = λ w rs i j l g. pairwise (w .pass .window) (parts w rs) i j (apart w rs) l g;
-      inside = inside;
+      inside = lies-inside;
       kept = held;
       settled = settled;
       size = size;

@@ -5,12 +5,12 @@ use native.Mathlib.Omega.{arith}
 use Rattle.rules.specs.Range.{byteRange, signed64}
 use Rattle.rules.specs.Types.{earlierTypes, laterTypes, lookup}
 use Rattle.rules.specs.Choose.{given, pick, inRange, rexAbsolute, movLoad, branchTo, tpoffLoad, ldCall, isRex2W, descChoice, rexGotpcrelx, gotpcrelx, gotpcrel, gottpoff, code6Gottpoff, tlsgd, tlsld, tlsdesc, choose, choosing}
-use Rattle.rules.specs.Rewrite.{rexMoved, rex2Moved, rexCopied, evexMoved, relaxChosen, relaxing, afterRelaxing}
+use Rattle.rules.specs.Rewrite.{rexMoved, rex2Moved, rexCopied, evexMoved, claims, relaxChosen, relaxing, afterRelaxing}
 use Rattle.pass.specs.Pass.{checked, clearing, stepping, passAfter, bytesAfter}
-use Rattle.pass.specs.Worked.{Worked}
+use Rattle.pass.specs.Worked.{WalkWorked}
 
-pub worked : Worked
-unfolding byteRange signed64 earlierTypes laterTypes lookup given pick inRange rexAbsolute movLoad branchTo tpoffLoad ldCall isRex2W descChoice rexGotpcrelx gotpcrelx gotpcrel gottpoff code6Gottpoff tlsgd tlsld tlsdesc choose choosing rexMoved rex2Moved rexCopied evexMoved relaxChosen relaxing afterRelaxing checked clearing stepping passAfter bytesAfter
+pub worked : WalkWorked
+unfolding byteRange signed64 earlierTypes laterTypes lookup given pick inRange rexAbsolute movLoad branchTo tpoffLoad ldCall isRex2W descChoice rexGotpcrelx gotpcrelx gotpcrel gottpoff code6Gottpoff tlsgd tlsld tlsdesc choose choosing rexMoved rex2Moved rexCopied evexMoved claims relaxChosen relaxing afterRelaxing checked clearing stepping passAfter bytesAfter
 worked =
     record {
       told-all = refl;

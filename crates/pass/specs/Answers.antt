@@ -1,80 +1,85 @@
--- The code's answers as 'The pass above' has them, demand 3 of a step, and the parts of a step. Assumes nothing.
-use mathlib.Core.Path.{_≡_}
+-- The code's answers, as 'The pass above' has them, and the parts of a step. Assumes nothing.
 use mathlib.Core.Bool.{false, cond}
 use mathlib.Core.List.{List}
 use Prim.Native.Nat.{ℕ}
-use lib.Dec.{T, ltb}
+use lib.Dec.{ltb}
+use Rattle.x86_64_kind.specs.declared.Window.{Window}
+use Rattle.x86_64_kind.specs.Kinds.{begin, end, isEmpty, inside, skips}
+use Rattle.rules.specs.declared.Relocation.{Relocation}
 use Rattle.rules.specs.Answer.{Answer, gives, refuses}
-use Rattle.rules.specs.Kinds.{skips}
-use Rattle.rules.specs.Meaning.{covered, Instruction, EndsAlike}
-use Rattle.relaxation_kind.specs.Kind.{kindOf}
-use Rattle.relaxation.specs.declared.Relaxation.{Relaxation}
-use Rattle.rewriting.specs.declared.Moved.{Moved}
-use Rattle.choice.specs.declared.Choice.{Choice}
+use Rattle.rules.specs.Rewrite.{unrelaxed, relaxed, claims}
+use Rattle.elf_x86_64_relaxation.specs.declared.Choice.{Choice}
+use Rattle.elf_x86_64_relaxation.specs.Choices.{relaxation}
 use Rattle.relax.specs.declared.Relaxed.{Relaxed}
-use Rattle.relax.specs.Relax.{rewrittenTo}
-use Rattle.spans.specs.declared.Span.{Span}
-use Rattle.spans.specs.Windows.{spanOf}
-use Rattle.pass.specs.Pass.{Accepted, took, skipped}
+use Rattle.relax.specs.Answers.{moved}
 use Rattle.pass.specs.declared.Pass.{Pass}
 use Rattle.pass.specs.declared.Step.{Step}
 use Rattle.pass.specs.declared.Stepped.{Stepped}
 use Rattle.pass.specs.declared.End.{End}
+use Rattle.pass.specs.declared.Ended.{Ended}
 use Rattle.pass.specs.declared.Verdict.{Verdict}
 use Rattle.pass.specs.declared.Step.the-variants.{Nothing, Done, Skipped, Refused}
 use Rattle.pass.specs.declared.Verdict.the-variants.{Refuse, Skip, Leave, Relax}
-use Rattle.rules.specs.Rewrite as rules
-use Rattle.choice.specs.declared.Choice.the-variants as choice
-use Rattle.relax.specs.declared.Relaxed.the-variants as relaxed
-use Rattle.spans.specs.declared.Span.the-variants as span
+use Rattle.pass.specs.Pass.{passed, cleared, pending, isPending, Accepted, took, skipped, stepping, passAfter, bytesAfter, ending, endedPass}
+use Rattle.elf_x86_64_relaxation.specs.declared.Choice.the-variants as choice
+use Rattle.relax.specs.declared.Relaxed.the-variants as answer
 use Rattle.pass.specs.declared.End.the-variants as end
 
--- a step's answer, with the section as it is then
-abbrev pub stepOf : Step → List ℕ → Answer Accepted
-stepOf Nothing new = gives (took rules.unrelaxed)
-stepOf (Done x m) new = gives (took (rules.relaxed (kindOf (x .kind)) (x .«new_type») (x .mandatory) (rewrittenTo new m)))
-stepOf Skipped new = gives skipped
-stepOf (Refused n) new = refuses n
+abbrev pub stepOf : Answer Accepted → Step
+stepOf (gives (took unrelaxed)) = Nothing
+stepOf (gives (took (relaxed k t m x))) = Done (relaxation k t m) (moved x)
+stepOf (gives skipped) = Skipped
+stepOf (refuses n) = Refused n
 
-abbrev pub endOf : End → Answer Unit
-endOf end.Granted = gives tt
-endOf (end.Refused n) = refuses n
+-- what a step answers, the pass in it, and the section it leaves
+pub record Taken : Type 0 where
+  pub stepped : Stepped
+  pub section : List ℕ
 
--- Demand 3, of a step: "from any state, ends alike on the old instruction and on the relaxed and filled one"
-pub record StepKeepsMeaning (type : ℕ) (old : List ℕ) (off : ℕ) (s : Step) (new : List ℕ) : Type 0 where
-  pub alike :
-      T (covered type) → Instruction type old off
-      → (x : Relaxation) (m : Moved) → s ≡ Done x m
-      → EndsAlike type old off (x .«new_type») (rewrittenTo new m)
+abbrev pub taken : Stepped → List ℕ → Taken
+taken s new = record { stepped = s; section = new }
+
+unfoldable pub step : Pass → List ℕ → Relocation → Taken
+step p sec r =
+    let a = stepping p sec r in
+    taken (record { pass = passAfter p r a; step = stepOf a }) (bytesAfter sec a)
+
+-- what an ending answers, with the pass
+abbrev pub endOf : Answer Unit → End
+endOf (gives u) = end.Granted
+endOf (refuses n) = end.Refused n
+
+abbrev pub ended : Pass → Ended
+ended p = record { pass = endedPass p (ending p); end = endOf (ending p) }
 
 -- ---- the parts of a step
 
 -- 23, or the window's end once the record is relaxed; a window that isn't inside is left to relaxing
-abbrev pub placed : Pass → Span → Verdict
-placed p span.Outside = Relax (p .window)
-placed p span.Empty = Relax (p .window)
-placed p (span.Between b e) = cond (ltb b (p .window)) (Refuse 23) (Relax e)
+abbrev pub placed : Pass → Window → ℕ → ℕ → Verdict
+placed p w len off =
+    cond (inside w len off)
+    (cond (isEmpty w) (Relax (p .window)) (cond (ltb (begin w off) (p .window)) (Refuse 23) (Relax (end w off))))
+    (Relax (p .window))
 
 -- 22, then the skip
-abbrev pub inOrder : Pass → ℕ → Verdict → Verdict
-inOrder p off v = cond (ltb off (p .last)) (Refuse 22) (cond (p .skip) Skip v)
+abbrev pub inOrder : Pass → Relocation → Verdict → Verdict
+inOrder p r v = cond (ltb (r .offset) (p .last)) (Refuse 22) (cond (isPending p) Skip v)
 
 -- what the pass says of a record whose choice is known, in a section of a length
-abbrev pub verdictOf : Pass → Choice → ℕ → ℕ → Verdict
-verdictOf p (choice.Refused n) len off = Refuse n
-verdictOf p choice.Nothing len off = inOrder p off Leave
-verdictOf p (choice.Chosen x) len off = inOrder p off (placed p (spanOf (kindOf (x .kind)) len off))
+abbrev pub verdictOf : Pass → Choice → ℕ → Relocation → Verdict
+verdictOf p (choice.Refused n) len r = Refuse n
+verdictOf p choice.Nothing len r = inOrder p r Leave
+verdictOf p (choice.Chosen x) len r = inOrder p r (placed p (claims (x .kind) (x .«new_type»)) len (r .offset))
 
--- the pass and the answer by what relaxing answered
-abbrev pub tookStep : Pass → ℕ → ℕ → Relaxed → Stepped
-tookStep p off w relaxed.Nothing = record { pass = record { last = off; window = p .window; skip = p .skip; ended = p .ended }; step = Nothing }
-tookStep p off w (relaxed.Done x m) =
-    record { pass = record { last = off; window = w; skip = skips (kindOf (x .kind)); ended = p .ended }; step = Done x m }
-tookStep p off w (relaxed.Refused n) = record { pass = p; step = Refused n }
+-- the pass and the answer by what relaxing answered, with the window's end
+abbrev pub tookStep : Pass → Relocation → ℕ → Relaxed → Stepped
+tookStep p r w answer.Nothing = record { pass = passed r p; step = Nothing }
+tookStep p r w (answer.Done x m) = record { pass = pending (skips (x .kind)) (cleared w (passed r p)); step = Done x m }
+tookStep p r w (answer.Refused n) = record { pass = p; step = Refused n }
 
 -- the pass and the answer where no byte is touched
-abbrev pub skippedStep : Pass → ℕ → Stepped
-skippedStep p off = record { pass = record { last = off; window = p .window; skip = false; ended = p .ended }; step = Skipped }
+abbrev pub skippedStep : Pass → Relocation → Stepped
+skippedStep p r = record { pass = pending false (passed r p); step = Skipped }
 
 abbrev pub refusedStep : Pass → ℕ → Stepped
 refusedStep p n = record { pass = p; step = Refused n }

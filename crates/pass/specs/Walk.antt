@@ -7,12 +7,15 @@ use Prim.Native.Nat.{ℕ, _<_, _≤_}
 use lib.Dec.{ltb}
 use lib.ListN.{length, getD}
 use Rattle.rules.specs.Answer.{Answer, gives, refuses}
-use Rattle.rules.specs.Kinds.{RelaxationKind}
-use Rattle.rules.specs.Choose.{Choice}
-use Rattle.rules.specs.Rewrite.{Rewritten, unrelaxed, relaxed}
-use Rattle.spans.specs.Windows.{isEmpty, begin, end}
+use Rattle.x86_64_kind.specs.declared.RelaxationKind.{RelaxationKind}
+use Rattle.x86_64_kind.specs.declared.Window.{Window}
+use Rattle.x86_64_kind.specs.Kinds.{isEmpty, begin, end}
+use Rattle.rules.specs.declared.Relocation.{Relocation}
+use Rattle.rules.specs.Record.{linkLimit}
+use Rattle.rules.specs.Choose.{Choice, choosing}
+use Rattle.rules.specs.Rewrite.{Rewritten, unrelaxed, relaxed, claims, relaxing}
 use Rattle.pass.specs.declared.Pass.{Pass}
-use Rattle.pass.specs.Pass.{Relocation, choosingOf, relaxingOf, Accepted, took, skipped, overlaps, stepping, passAfter, bytesAfter}
+use Rattle.pass.specs.Pass.{Accepted, took, skipped, isPending, overlaps, stepping, passAfter, bytesAfter}
 
 -- a pass and its section
 pub record Walk : Type 0 where
@@ -23,11 +26,10 @@ pub record Walk : Type 0 where
 abbrev pub answer : Walk → Relocation → Answer Accepted
 answer w r = stepping (w .pass) (w .section) r
 
-abbrev pub after : Walk → ℕ → Answer Accepted → Walk
-after w off a = record { pass = passAfter (w .pass) off a; section = bytesAfter (w .section) a }
-
 abbrev pub stepped : Walk → Relocation → Walk
-stepped w r = after w (r .offset) (answer w r)
+stepped w r =
+    let a = answer w r in
+    record { pass = passAfter (w .pass) r a; section = bytesAfter (w .section) a }
 
 -- a whole walk, and the answers on the way
 abbrev pub walk : Walk → List Relocation → Walk
@@ -54,8 +56,11 @@ pub record Part : Type 0 where
   pub from : ℕ
   pub to : ℕ
 
+abbrev pub partFrom : Window → ℕ → List Part
+partFrom w off = cond (isEmpty w) [] (record { from = begin w off; to = end w off } ∷ [])
+
 abbrev pub partOf : ℕ → Answer Accepted → List Part
-partOf off (gives (took (relaxed k t m x))) = cond (isEmpty k) [] (record { from = begin k off; to = end k off } ∷ [])
+partOf off (gives (took (relaxed k t m x))) = partFrom (claims k t) off
 partOf off (gives (took unrelaxed)) = []
 partOf off (gives skipped) = []
 partOf off (refuses n) = []
@@ -96,8 +101,8 @@ pub record Walks : Type 0 where
   -- a record that relaxing one record relaxes is relaxed, wherever it stands, unless 21, 22, 23 or the skip says otherwise
   pub works :
       (w : Walk) (r : Relocation) (c : Choice) (k : RelaxationKind) (t : ℕ) (m : Bool) (x : Rewritten)
-      → w .pass .ended ≡ false → choosingOf (w .section) r ≡ gives c → ltb (r .offset) (w .pass .last) ≡ false → w .pass .skip ≡ false
-      → relaxingOf (w .section) r ≡ gives (relaxed k t m x) → overlaps (w .pass) k (r .offset) ≡ false
+      → w .pass .ended ≡ false → choosing linkLimit (w .section) r ≡ gives c → ltb (r .offset) (w .pass .last) ≡ false → isPending (w .pass) ≡ false
+      → relaxing linkLimit (w .section) r ≡ gives (relaxed k t m x) → overlaps (w .pass) (claims k t) (r .offset) ≡ false
       → answer w r ≡ gives (took (relaxed k t m x))
   -- a pass that has ended answers 21 to every record, and nothing changes
   pub over : (w : Walk) (rs : List Relocation) → w .pass .ended ≡ true → (answers w rs ≡ map (λ _. refuses 21) rs) × (walk w rs ≡ w)

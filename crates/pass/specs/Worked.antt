@@ -5,10 +5,12 @@ use mathlib.Core.List.{List, [], _∷_, map}
 use Prim.Native.Nat.{ℕ}
 use lib.IntN.{negsuc}
 use Rattle.rules.specs.Answer.{Answer, gives, refuses}
-use Rattle.rules.specs.Kinds.{shapeOf}
+use Rattle.x86_64_kind.specs.Kinds.{shapeOf}
+use Rattle.rules.specs.declared.Relocation.{Relocation}
+use Rattle.rules.specs.Record.{relocation}
 use Rattle.rules.specs.Rewrite.{unrelaxed, relaxed}
 use Rattle.pass.specs.declared.Pass.{Pass}
-use Rattle.pass.specs.Pass.{Relocation, relocation, Accepted, took, skipped, freshPass, ending, endedPass}
+use Rattle.pass.specs.Pass.{Accepted, took, skipped, freshPass, ending, endedPass}
 use Rattle.pass.specs.Walk.{Walk, walk, answers, parts, Outside}
 
 -- an answer in short: the kind's number, none, skipped, or the refusal
@@ -31,7 +33,7 @@ section =
 
 -- type and offset, executable, non-interposable, static and fixed, at 0x401000
 abbrev at : ℕ → ℕ → Relocation
-at type off = relocation off 1 0 0x401000 (negsuc 3) type true
+at type off = relocation type off 1 0 true 0x401000 (negsuc 3)
 
 -- a sequence; a record before it; the sequence's call, which is skipped; a load; a descriptor's call past the load's window, and one that
 -- begins inside that call's own; an empty window inside it; a type with no rule; a descriptor's call past the last window, and one that
@@ -57,7 +59,7 @@ start = record { pass = freshPass; section = section }
 abbrev passOf : ℕ → ℕ → Bool → Bool → Pass
 passOf l w s e = record { last = l; window = w; skip = s; ended = e }
 
-pub record Worked : Type 0 where
+pub record WalkWorked : Type 0 where
   pub told-all :
       map told (answers start records)
       ≡ relaxes 10 ∷ refused 22 ∷ skips ∷ relaxes 2 ∷ relaxes 18 ∷ refused 23 ∷ relaxes 9 ∷ leaves ∷ relaxes 18 ∷ refused 6 ∷ refused 2 ∷ []

@@ -1,15 +1,17 @@
 // The pass above one record: it walks a section's records by value, and sees of choosing and of
 // relaxing one record only what they promise. A refusal hands the pass and the section back unchanged.
 ghost use mathlib.Core.Path.{_≡_};
-ghost use Rattle.pass.specs.Pass.{relocation, freshPass, stepping, passAfter, bytesAfter, ending, endedPass};
+ghost use Rattle.rules.specs.Meaning.{SameMeaning};
+ghost use Rattle.pass.specs.Pass.{freshPass};
 ghost use Rattle.pass.specs.Walk.{Walks};
-ghost use Rattle.pass.specs.Worked.{Worked};
-ghost use Rattle.pass.specs.Answers.{stepOf, endOf, StepKeepsMeaning, placed, inOrder, verdictOf, tookStep, skippedStep, refusedStep};
-use choice::Choice;
+ghost use Rattle.pass.specs.Worked.{WalkWorked};
+ghost use Rattle.pass.specs.Answers.{taken, step, ended, placed, inOrder, verdictOf, tookStep, skippedStep, refusedStep};
+use elf_x86_64_relaxation::Choice;
+use elf_x86_64_relaxation::Relaxation;
 use relax::Relaxed;
-use relaxation::Relaxation;
-use rewriting::Moved;
-use spans::Span;
+use rules::Relocation;
+use x86_64_apply::Moved;
+use x86_64_kind::Window;
 
 // The last offset, the end of the last window that isn't empty, whether a skip is pending, and
 // whether the pass has ended.
@@ -57,7 +59,7 @@ impl Pass {
     pub fn fresh() -> Pass
         ensures { λ r. ⌜ r ≡ freshPass ⌝ }
         ensures { λ _. ⌜ Walks ⌝ }
-        ensures { λ _. ⌜ Worked ⌝ }
+        ensures { λ _. ⌜ WalkWorked ⌝ }
     {
         Pass {
             last: 0,
@@ -67,61 +69,29 @@ impl Pass {
         }
     }
 
-    // Takes one record. Refusals 21, 1, 2, 3, 4, 22, 6, 23. Its contract ends with demand 3, same
-    // meaning, of what the step did.
-    pub fn step(
-        self,
-        relocation_kind: u32,
-        section_bytes: &mut [u8],
-        offset_in_section: u64,
-        flags: u8,
-        output_kind: u8,
-        executable: bool,
-        sym_addr: u64,
-        rel_addend: i64,
-    ) -> Stepped
-        ensures { λ r. ⌜ stepOf (r .step) (now («section_bytes» .exit)) ≡ stepping self (now («section_bytes» .entry)) (relocation «offset_in_section» flags «output_kind» «sym_addr» «rel_addend» «relocation_kind» executable) ⌝ }
-        ensures { λ r. ⌜ r .pass ≡ passAfter self «offset_in_section» (stepping self (now («section_bytes» .entry)) (relocation «offset_in_section» flags «output_kind» «sym_addr» «rel_addend» «relocation_kind» executable)) ⌝ }
-        ensures { λ _. ⌜ now («section_bytes» .exit) ≡ bytesAfter (now («section_bytes» .entry)) (stepping self (now («section_bytes» .entry)) (relocation «offset_in_section» flags «output_kind» «sym_addr» «rel_addend» «relocation_kind» executable)) ⌝ }
-        ensures { λ r. ⌜ StepKeepsMeaning «relocation_kind» (now («section_bytes» .entry)) «offset_in_section» (r .step) (now («section_bytes» .exit)) ⌝ }
+    // Takes one record. Refusals 21, 1, 2, 3, 4, 22, 6, 23.
+    pub fn step(self, section_bytes: &mut [u8], rel: Relocation) -> Stepped
+        ensures { λ r. ⌜ taken r (now («section_bytes» .exit)) ≡ step self (now («section_bytes» .entry)) rel ⌝ }
+        ensures { λ _. ⌜ SameMeaning (now («section_bytes» .entry)) ⌝ }
     {
         if self.ended {
             return self.refused(21);
         }
-        let choice = new_relaxation::new_relaxation(
-            relocation_kind,
-            section_bytes,
-            offset_in_section,
-            flags,
-            output_kind,
-            executable,
-            sym_addr,
-            rel_addend,
-        );
-        match self.verdict(choice, section_bytes.len() as u64, offset_in_section) {
+        let choice = elf_x86_64_new_relaxation::new_relaxation(section_bytes, rel);
+        match self.verdict(choice, section_bytes.len() as u64, rel) {
             Verdict::Refuse(n) => self.refused(n),
-            Verdict::Skip => self.skipped(offset_in_section),
-            Verdict::Leave => self.took(offset_in_section, 0, Relaxed::Nothing),
+            Verdict::Skip => self.skipped(rel),
+            Verdict::Leave => self.took(rel, 0, Relaxed::Nothing),
             Verdict::Relax(window) => {
-                let relaxed = relax::relax(
-                    relocation_kind,
-                    section_bytes,
-                    offset_in_section,
-                    flags,
-                    output_kind,
-                    executable,
-                    sym_addr,
-                    rel_addend,
-                );
-                self.took(offset_in_section, window, relaxed)
+                let relaxed = relax::relax(section_bytes, rel);
+                self.took(rel, window, relaxed)
             }
         }
     }
 
     // Ends the pass. Refusals 21, 24.
     pub fn end(self) -> Ended
-        ensures { λ r. ⌜ endOf (r .end) ≡ ending self ⌝ }
-        ensures { λ r. ⌜ r .pass ≡ endedPass self (ending self) ⌝ }
+        ensures { λ r. ⌜ r ≡ ended self ⌝ }
     {
         if self.ended {
             return Ended {
@@ -144,24 +114,23 @@ impl Pass {
     }
 
     // 1, 2, 3, 4 as choosing has them, 22, the skip, then 23 where the window lies inside.
-    fn verdict(self, choice: Choice, len: u64, offset: u64) -> Verdict
-        ensures { λ r. ⌜ r ≡ verdictOf self choice len offset ⌝ }
+    fn verdict(self, choice: Choice, len: u64, rel: Relocation) -> Verdict
+        ensures { λ r. ⌜ r ≡ verdictOf self choice len rel ⌝ }
     {
         match choice {
             Choice::Refused(n) => Verdict::Refuse(n),
-            Choice::Nothing => self.in_order(offset, Verdict::Leave),
+            Choice::Nothing => self.in_order(rel, Verdict::Leave),
             Choice::Chosen(relaxation) => {
-                let kind = relaxation.kind;
-                let span = spans::span_of(kind, len, offset);
-                self.in_order(offset, self.place(span))
+                let verdict = self.place(relaxation.claim(), len, rel.offset);
+                self.in_order(rel, verdict)
             }
         }
     }
 
-    fn in_order(self, offset: u64, verdict: Verdict) -> Verdict
-        ensures { λ r. ⌜ r ≡ inOrder self offset verdict ⌝ }
+    fn in_order(self, rel: Relocation, verdict: Verdict) -> Verdict
+        ensures { λ r. ⌜ r ≡ inOrder self rel verdict ⌝ }
     {
-        if offset < self.last {
+        if rel.offset < self.last {
             return Verdict::Refuse(22);
         }
         if self.skip {
@@ -170,52 +139,58 @@ impl Pass {
         verdict
     }
 
-    fn place(self, span: Span) -> Verdict
-        ensures { λ r. ⌜ r ≡ placed self span ⌝ }
+    fn place(self, window: Window, len: u64, offset: u64) -> Verdict
+        ensures { λ r. ⌜ r ≡ placed self window len offset ⌝ }
     {
-        match span {
-            Span::Outside => Verdict::Relax(self.window),
-            Span::Empty => Verdict::Relax(self.window),
-            Span::Between(begin, end) => {
-                if begin < self.window {
-                    return Verdict::Refuse(23);
-                }
-                Verdict::Relax(end)
+        let back = window.back;
+        let size = window.size;
+        let last = self.window;
+        let inside = window.is_inside(len, offset);
+        if inside {
+            if size == 0 {
+                return Verdict::Relax(last);
             }
+            let begin = offset - back;
+            if begin < last {
+                return Verdict::Refuse(23);
+            }
+            return Verdict::Relax(begin + size);
         }
+        Verdict::Relax(last)
     }
 
     // What relaxing answered; `window` is the window's end where a record was relaxed.
-    fn took(self, offset: u64, window: u64, relaxed: Relaxed) -> Stepped
-        ensures { λ r. ⌜ r ≡ tookStep self offset window relaxed ⌝ }
+    fn took(self, rel: Relocation, window: u64, relaxed: Relaxed) -> Stepped
+        ensures { λ r. ⌜ r ≡ tookStep self rel window relaxed ⌝ }
     {
         match relaxed {
             Relaxed::Nothing => {
                 let mut pass = self;
-                pass.last = offset;
+                pass.last = rel.offset;
                 Stepped {
                     pass: pass,
                     step: Step::Nothing,
                 }
             }
-            Relaxed::Done(relaxation, moved) => Stepped {
-                pass: Pass {
-                    last: offset,
-                    window: window,
-                    skip: relaxation.next_modifier().is_skip(),
-                    ended: self.ended,
-                },
-                step: Step::Done(relaxation, moved),
-            },
+            Relaxed::Done(relaxation, moved) => {
+                let mut pass = self;
+                pass.last = rel.offset;
+                pass.window = window;
+                pass.skip = relaxation.next_modifier().is_skip();
+                Stepped {
+                    pass: pass,
+                    step: Step::Done(relaxation, moved),
+                }
+            }
             Relaxed::Refused(n) => self.refused(n),
         }
     }
 
-    fn skipped(self, offset: u64) -> Stepped
-        ensures { λ r. ⌜ r ≡ skippedStep self offset ⌝ }
+    fn skipped(self, rel: Relocation) -> Stepped
+        ensures { λ r. ⌜ r ≡ skippedStep self rel ⌝ }
     {
         let mut pass = self;
-        pass.last = offset;
+        pass.last = rel.offset;
         pass.skip = false;
         Stepped {
             pass: pass,

@@ -1,129 +1,92 @@
 // Choosing and relaxing where most records need no byte: addresses and calls are settled by their numbers, in
 // line, and the rest is left to `new_relaxation` and `relax`. The contracts are theirs.
 ghost use mathlib.Core.Path.{_≡_};
-ghost use Rattle.rules.specs.Record.{isS};
+ghost use Rattle.rules.specs.Record.{linkLimit, isS};
 ghost use Rattle.rules.specs.Choose.{choosing};
 ghost use Rattle.rules.specs.Rewrite.{relaxing, afterRelaxing};
-ghost use Rattle.choice.specs.Choices.{choiceOf};
-ghost use Rattle.relax.specs.Relax.{relaxedOf, RelaxingKeepsMeaning};
-ghost use Rattle.quick.specs.Plain.{calledAt, Plain, unruled};
-use choice::Choice;
-use choice::is_non_interposable;
-use choice::relax_to;
+ghost use Rattle.rules.specs.Meaning.{SameMeaning};
+ghost use Rattle.elf_x86_64_relaxation.specs.Choices.{choiceOf};
+ghost use Rattle.relax.specs.Answers.{relaxedOf};
+ghost use Rattle.quick.specs.Plain.{Plain, unruled, call, called};
+use elf_x86_64_relaxation::Choice;
+use elf_x86_64_relaxation::Relaxation;
 use relax::Relaxed;
-use relaxation::Relaxation;
-use relaxation_kind::RelaxationKind;
-use rewriting::Moved;
+use rules::Relocation;
 use value_flags::ValueFlags;
+use x86_64_apply::Moved;
+use x86_64_kind::RelaxationKind;
 
-// As `new_relaxation::new_relaxation`.
-pub fn new_relaxation(
-    relocation_kind: u32,
-    section_bytes: &[u8],
-    offset_in_section: u64,
-    flags: u8,
-    output_kind: u8,
-    executable: bool,
-    sym_addr: u64,
-    rel_addend: i64,
-) -> Choice
-    ensures { λ r. ⌜ choiceOf r ≡ choosing (now («section_bytes» .entry)) «offset_in_section» flags «output_kind» «sym_addr» «rel_addend» «relocation_kind» executable ⌝ }
+// As `elf_x86_64_new_relaxation::new_relaxation`.
+pub fn new_relaxation(section_bytes: &[u8], rel: Relocation) -> Choice
+    ensures { λ r. ⌜ r ≡ choiceOf (choosing linkLimit (now («section_bytes» .entry)) rel) ⌝ }
 {
-    let plain = is_plain(section_bytes, offset_in_section, flags, output_kind);
+    let plain = is_plain(section_bytes, rel);
     if plain {
-        let unruled = is_unruled(relocation_kind, flags, executable);
+        let unruled = is_unruled(rel);
         if unruled {
             return Choice::Nothing;
         }
-        if relocation_kind == object::R_X86_64_PLT32 {
-            return relax_to(
-                RelaxationKind::NoOp,
-                object::R_X86_64_PC32,
-                is_static(output_kind),
-            );
+        if rel.r_type == object::R_X86_64_PLT32 {
+            return Choice::Chosen(relaxed_call(rel));
         }
     }
-    new_relaxation::new_relaxation(
-        relocation_kind,
-        section_bytes,
-        offset_in_section,
-        flags,
-        output_kind,
-        executable,
-        sym_addr,
-        rel_addend,
-    )
+    elf_x86_64_new_relaxation::new_relaxation(section_bytes, rel)
 }
 
 // As `relax::relax`.
-pub fn relax(
-    relocation_kind: u32,
-    section_bytes: &mut [u8],
-    offset_in_section: u64,
-    flags: u8,
-    output_kind: u8,
-    executable: bool,
-    sym_addr: u64,
-    rel_addend: i64,
-) -> Relaxed
-    ensures { λ r. ⌜ relaxedOf r (now («section_bytes» .exit)) ≡ relaxing (now («section_bytes» .entry)) «offset_in_section» flags «output_kind» «sym_addr» «rel_addend» «relocation_kind» executable ⌝ }
-    ensures { λ _. ⌜ now («section_bytes» .exit) ≡ afterRelaxing (now («section_bytes» .entry)) (relaxing (now («section_bytes» .entry)) «offset_in_section» flags «output_kind» «sym_addr» «rel_addend» «relocation_kind» executable) ⌝ }
-    ensures { λ r. ⌜ RelaxingKeepsMeaning «relocation_kind» (now («section_bytes» .entry)) «offset_in_section» r (now («section_bytes» .exit)) ⌝ }
+pub fn relax(section_bytes: &mut [u8], rel: Relocation) -> Relaxed
+    ensures { λ r. ⌜ r ≡ relaxedOf (relaxing linkLimit (now («section_bytes» .entry)) rel) ⌝ }
+    ensures { λ _. ⌜ now («section_bytes» .exit) ≡ afterRelaxing (now («section_bytes» .entry)) (relaxing linkLimit (now («section_bytes» .entry)) rel) ⌝ }
+    ensures { λ _. ⌜ SameMeaning (now («section_bytes» .entry)) ⌝ }
 {
-    let plain = is_plain(section_bytes, offset_in_section, flags, output_kind);
+    let plain = is_plain(section_bytes, rel);
     if plain {
-        let unruled = is_unruled(relocation_kind, flags, executable);
+        let unruled = is_unruled(rel);
         if unruled {
             return Relaxed::Nothing;
         }
-        if relocation_kind == object::R_X86_64_PLT32 {
-            return relaxed_call(is_static(output_kind), offset_in_section, rel_addend);
+        if rel.r_type == object::R_X86_64_PLT32 {
+            return Relaxed::Done(relaxed_call(rel), unmoved(rel));
         }
     }
-    relax::relax(
-        relocation_kind,
-        section_bytes,
-        offset_in_section,
-        flags,
-        output_kind,
-        executable,
-        sym_addr,
-        rel_addend,
-    )
+    relax::relax(section_bytes, rel)
 }
 
 // A call of a symbol that isn't interposable keeps its bytes, its offset and its addend.
-fn relaxed_call(mandatory: bool, offset: u64, addend: i64) -> Relaxed
-    ensures { λ r. ⌜ r ≡ calledAt mandatory offset addend ⌝ }
+fn relaxed_call(rel: Relocation) -> Relaxation
+    ensures { λ r. ⌜ r ≡ call rel ⌝ }
 {
-    Relaxed::Done(
-        Relaxation {
-            kind: RelaxationKind::NoOp,
-            new_type: object::R_X86_64_PC32,
-            mandatory: mandatory,
-        },
-        Moved {
-            offset: offset,
-            addend: addend,
-        },
-    )
+    Relaxation {
+        kind: RelaxationKind::NoOp,
+        new_type: object::R_X86_64_PC32,
+        mandatory: is_static(rel.output_kind),
+    }
+}
+
+fn unmoved(rel: Relocation) -> Moved
+    ensures { λ r. ⌜ r ≡ record { offset = rel .offset; addend = rel .addend } ⌝ }
+{
+    Moved {
+        offset: rel.offset,
+        addend: rel.addend,
+    }
 }
 
 // Whether a record is neither refused by 1 to 4 nor an ifunc.
-fn is_plain(section_bytes: &[u8], offset_in_section: u64, flags: u8, output_kind: u8) -> bool
-    ensures { λ r. ⌜ Plain r (now («section_bytes» .entry)) «offset_in_section» flags «output_kind» ⌝ }
+fn is_plain(section_bytes: &[u8], rel: Relocation) -> bool
+    ensures { λ r. ⌜ Plain r (now («section_bytes» .entry)) rel ⌝ }
 {
-    if 268435456 < section_bytes.len() {
+    if rules::section_limit() < section_bytes.len() {
         return false;
     }
-    let offset = offset_in_section as usize;
+    let offset = rel.offset as usize;
     if section_bytes.len() < offset {
         return false;
     }
-    if 7 < flags {
+    if 7 < rel.flags {
         return false;
     }
-    if 5 < output_kind {
+    if 5 < rel.output_kind {
         return false;
     }
     true
@@ -131,20 +94,23 @@ fn is_plain(section_bytes: &[u8], offset_in_section: u64, flags: u8, output_kind
 
 // Whether nothing is chosen for a plain record, by its numbers: of the types below 19 only PLT32 and
 // GOTPCREL have a rule.
-fn is_unruled(relocation_kind: u32, flags: u8, executable: bool) -> bool
-    ensures { λ r. ⌜ r ≡ unruled «relocation_kind» flags executable ⌝ }
+fn is_unruled(rel: Relocation) -> bool
+    ensures { λ r. ⌜ r ≡ unruled rel ⌝ }
 {
+    let r_type = rel.r_type;
+    let executable = rel.executable;
     if executable {
-        if relocation_kind == object::R_X86_64_PLT32 {
-            return !is_non_interposable(ValueFlags { bits: flags });
+        if r_type == object::R_X86_64_PLT32 {
+            let flags = ValueFlags { bits: rel.flags };
+            return flags.is_interposable();
         }
-        if relocation_kind < object::R_X86_64_GOTPCREL {
+        if r_type < object::R_X86_64_GOTPCREL {
             return true;
         }
-        if relocation_kind < object::R_X86_64_32 {
+        if r_type < object::R_X86_64_32 {
             return false;
         }
-        return relocation_kind < object::R_X86_64_TLSGD;
+        return r_type < object::R_X86_64_TLSGD;
     }
     true
 }

@@ -11,10 +11,13 @@
 //   5 write_plt_entry: length lent, GOT (8), PLT (8), 0 or the refusal, 16 bytes of a buffer
 //   6 fill_section_padding: executable, length lent, 16 bytes of a buffer
 //   7 AllowedRange::contains: type (4), value (8), 0 or 1
+//   8 AllowedRange::from_byte_size: bytes, 0 signed or 1 unsigned, min (8), max (8)
 // Numbers stand low byte first; buffers hold A5 before.
 use elf::AllowedRange;
+use elf::ByteWidth;
 use elf::DynamicRelocationKind;
-use elf_x86_64::PltEntry;
+use elf::Sign;
+use elf_x86_64_plt::PltEntry;
 use hex_lines::byte;
 use hex_lines::more;
 use hex_lines::print_count;
@@ -25,7 +28,7 @@ use output_kind::OutputKind;
 use output_kind::OutputKindFound;
 use value_flags::ValueFlags;
 use value_flags::ValueFlagsFound;
-use x86_64::RelocationFound;
+use x86_64_types::RelocationFound;
 
 fn flag(b: bool) -> u8 {
     if b { 1 } else { 0 }
@@ -69,7 +72,7 @@ fn range_agrees(range: AllowedRange, min: i64, max: i64) -> bool {
 }
 
 fn relocation_agrees(line: &[u8]) -> bool {
-    match x86_64::relocation_from_raw(u32_at(line, 1)) {
+    match x86_64_types::relocation_from_raw(u32_at(line, 1)) {
         RelocationFound::Is(info) => {
             let kind = info.kind;
             let range = info.range;
@@ -116,7 +119,11 @@ fn plt_agrees(line: &[u8]) -> bool {
     if 64 < n {
         return false;
     }
-    let answer = elf_x86_64::write_plt_entry(&mut buffer[..n], u64_at(line, 2), u64_at(line, 10));
+    let answer = elf_x86_64_plt::write_plt_entry(
+        &mut buffer[..n],
+        u64_at(line, 2),
+        u64_at(line, 10),
+    );
     let refusal = match answer {
         PltEntry::Written => 0,
         PltEntry::Refused(number) => number,
@@ -130,18 +137,33 @@ fn padding_agrees(line: &[u8]) -> bool {
     if 64 < n {
         return false;
     }
-    elf_x86_64::fill_section_padding(&mut buffer[..n], byte(line, 1) == 1);
+    elf_x86_64_plt::fill_section_padding(&mut buffer[..n], byte(line, 1) == 1);
     buffer_agrees(line, 3, buffer)
 }
 
 fn contains_agrees(line: &[u8]) -> bool {
-    match x86_64::relocation_from_raw(u32_at(line, 1)) {
+    match x86_64_types::relocation_from_raw(u32_at(line, 1)) {
         RelocationFound::Is(info) => {
             let range = info.range;
             flag(range.contains(i64_at(line, 5))) == byte(line, 13)
         }
         RelocationFound::Refused(_) => false,
     }
+}
+
+fn byte_size_agrees(line: &[u8]) -> bool {
+    let sign = match byte(line, 2) {
+        0 => Sign::Signed,
+        _ => Sign::Unsigned,
+    };
+    let width = match byte(line, 1) {
+        1 => ByteWidth::One,
+        2 => ByteWidth::Two,
+        4 => ByteWidth::Four,
+        _ => ByteWidth::Eight,
+    };
+    let range = AllowedRange::from_byte_size(width, sign);
+    range_agrees(range, i64_at(line, 3), i64_at(line, 11))
 }
 
 // How many records of each function agree, and how many of any function don't.
@@ -153,6 +175,7 @@ struct Tally {
     plt: u64,
     padding: u64,
     contains: u64,
+    byte_size: u64,
     differ: u64,
 }
 
@@ -167,6 +190,7 @@ fn tallied(mut t: Tally, line: &[u8]) -> Tally {
         5 => plt_agrees(line),
         6 => padding_agrees(line),
         7 => contains_agrees(line),
+        8 => byte_size_agrees(line),
         _ => false,
     };
     t.output_kind = more(t.output_kind, agrees & (tag == 1));
@@ -176,6 +200,7 @@ fn tallied(mut t: Tally, line: &[u8]) -> Tally {
     t.plt = more(t.plt, agrees & (tag == 5));
     t.padding = more(t.padding, agrees & (tag == 6));
     t.contains = more(t.contains, agrees & (tag == 7));
+    t.byte_size = more(t.byte_size, agrees & (tag == 8));
     t.differ = more(t.differ, !agrees);
     t
 }
@@ -188,6 +213,7 @@ fn print_tally(t: Tally) {
     print_count(b"PLT entries", t.plt);
     print_count(b"paddings", t.padding);
     print_count(b"ranges", t.contains);
+    print_count(b"ranges of fields", t.byte_size);
     print_count(b"differ", t.differ);
 }
 
@@ -200,6 +226,7 @@ fn main() {
         plt: 0,
         padding: 0,
         contains: 0,
+        byte_size: 0,
         differ: 0,
     };
     let mut turns = 0u64;

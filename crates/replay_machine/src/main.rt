@@ -1,7 +1,8 @@
 // Replays single steps of a CPU against the twin of the machine, and prints how many there are and how many differ.
 // A line has 311 bytes in hexadecimal, numbers low byte first: the instruction's length, its bytes (12, the rest 0), its
 // address, the slot's address and contents (0 where there is none), 16 registers and the flags before, the same after,
-// rip after, and the 8 bytes at rsp - 8 after (A5 in each where nothing is pushed).
+// rip after, and the 8 bytes at rsp - 8 after (A5 in each where nothing is pushed). Where 128 is added to the length there
+// must be no step (tests/machine/make_stopped.py), and what is after counts for nothing.
 use hex_lines::byte;
 use hex_lines::more;
 use hex_lines::print_count;
@@ -60,13 +61,31 @@ fn same_registers(a: &[u64; 32], b: &[u64; 32]) -> bool {
     true
 }
 
-// What the slot's place and contents are, by the line, is what the twin says.
+// The slot lies where the line says, or the line has none.
 fn slot_agrees(line: &[u8], code: &[u8]) -> bool {
-    let place = machine_step::slot_place(code, u64_at(line, 13));
-    if place.reads {
-        return place.at == u64_at(line, 21);
-    }
-    u64_at(line, 21) == 0
+    let at = u64_at(line, 21);
+    (at == 0) | (machine_step::slot_address(code, u64_at(line, 13)) == at)
+}
+
+// Whether a part of the instruction has no step: registers and flags as they came, and nothing else.
+fn stops(line: &[u8], code: &[u8]) -> bool {
+    let before = registers(line, 37);
+    let r = machine_step::step(
+        code,
+        u64_at(line, 13),
+        u64_at(line, 29),
+        before,
+        flags(byte(line, 165)),
+    );
+    let steps = r.steps | r.pushes;
+    let out = r.regs;
+    let f = r.flags;
+    !steps
+        & same_registers(&out, &before)
+        & same_flags(f, flags(byte(line, 165)))
+        & (r.next == 0)
+        & (r.pushed == 0)
+        & (r.at == 0)
 }
 
 // Whether the twin steps as the CPU did.
@@ -105,9 +124,15 @@ fn agrees(line: &[u8]) -> bool {
         return false;
     }
     let less = n - 1;
-    let cut = machine_step::step(&code[..less], 0, 0, [0u64; 32], flags(0));
-    let cut_steps = cut.steps;
-    !cut_steps & slot_agrees(line, &code[..n]) & step_agrees(line, &code[..n])
+    stops(line, &code[..less]) & slot_agrees(line, &code[..n]) & step_agrees(line, &code[..n])
+}
+
+// The same, or where there must be no step, that there is none.
+fn line_agrees(line: &[u8]) -> bool {
+    if 128 <= byte(line, 0) {
+        return stops(line, &instruction(line));
+    }
+    agrees(line)
 }
 
 fn print_counts(all: u64, differ: u64) {
@@ -124,7 +149,7 @@ fn main() {
         if got == 0 {
             break;
         }
-        differ = more(differ, !agrees(&line));
+        differ = more(differ, !line_agrees(&line));
         turns += 1;
     }
     print_counts(turns, differ);

@@ -5,74 +5,53 @@ use hex_lines::byte;
 use hex_lines::more;
 use hex_lines::print_count;
 use libc::STDIN_FILENO;
-use machine_step::Form;
-use machine_step::Op;
-use machine_step::Source;
 
-fn source_number(source: Source) -> u8 {
-    match source {
-        Source::Slot => 0,
-        Source::Imm => 1,
-        Source::Addr => 2,
-    }
+fn encoding(line: &[u8]) -> [u8; 12] {
+    let mut code = [0u8; 12];
+    hex_lines::bytes_at(line, 5, &mut code);
+    code
 }
 
-fn mov_number(source: Source) -> u8 {
-    match source {
-        Source::Slot => 0,
-        Source::Imm => 0,
-        Source::Addr => 4,
-    }
-}
-
-fn op_number(op: Op, source: Source) -> u8 {
-    match op {
-        Op::Mov => mov_number(source),
-        Op::Add => 1,
-        Op::Sub => 2,
-        Op::Cmp => 3,
-    }
-}
-
-// Whether the four bytes after the header are the field, and end the encoding.
-fn field_agrees(line: &[u8], header: u8) -> bool {
-    if 8 < header {
+// Whether the last four of n bytes are the field, and end the encoding.
+fn field_agrees(line: &[u8], n: u8) -> bool {
+    if n < 4 {
         return false;
     }
-    let at = 5 + header as usize;
+    let at = 1 + n as usize;
     (byte(line, at) == 0x44)
         & (byte(line, at + 1) == 0x33)
         & (byte(line, at + 2) == 0x22)
         & (byte(line, at + 3) == 0x11)
-        & (header + 4 == byte(line, 4))
+        & (n == byte(line, 4))
 }
 
-fn agrees(line: &[u8]) -> bool {
-    let form = machine_step::decode(byte(line, 5), byte(line, 6), byte(line, 7), byte(line, 8));
-    match form {
-        Form::Bad => false,
-        Form::Alu {
-            op,
-            wide,
-            register,
-            source,
-            header,
-        } => {
-            (op_number(op, source) == byte(line, 0))
-                & (source_number(source) == byte(line, 1))
-                & (wide == (byte(line, 2) == 1))
-                & (register == byte(line, 3))
-                & field_agrees(line, header)
-        }
-        Form::Call {
-            source: _,
-            header: _,
-        } => false,
-        Form::Jump {
-            source: _,
-            header: _,
-        } => false,
+// Where the operation's result goes: to register k, but for cmp.
+fn target(operation: u8, k: u8) -> u8 {
+    if operation == 3 {
+        return machine_step::NOWHERE;
     }
+    k
+}
+
+// Whether the encoding decodes to the form that the line names.
+fn agrees(line: &[u8]) -> bool {
+    let code = encoding(line);
+    let f = machine_step::decode(&code);
+    let operation = byte(line, 0);
+    let k = byte(line, 3);
+    let operands = (f.wide == (byte(line, 2) == 1))
+        & (f.target == target(operation, k))
+        & (f.source == byte(line, 1))
+        & field_agrees(line, f.long);
+    let moves = (operation == 0) | (operation == 4);
+    if moves {
+        return operands & (f.action == machine_step::MOVE);
+    }
+    operands
+        & (f.action == machine_step::ALU)
+        & (f.sub == (operation != 1))
+        & (f.first == k)
+        & f.sets
 }
 
 fn print_counts(all: u64, differ: u64) {

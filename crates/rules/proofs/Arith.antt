@@ -1,18 +1,19 @@
 -- The arithmetic of a filled field: one lemma on wrap and sign serves every PC-relative kind (`back`, `signed-low`), one on sign extension
 -- every absolute kind (`signed-low`).
 -- Assumes nothing.
-use mathlib.Core.Path.{_≡_, refl, sym, _∙_, subst, ap}
+use mathlib.Core.Path.{_≡_, refl, _∙_, ap}
 use mathlib.Core.Logic.{_⊎_, inl, inr}
 use mathlib.Core.Bool.{Bool, true, false, _&&_, cond}
-use Prim.Native.Nat.{ℕ, zero, suc, _+_, _-_, _*_, _/_, _%_, _^_, _≤_, _<_}
+use Prim.Native.Nat.{ℕ, _+_, _-_, _*_, _/_, _%_, _^_, _≤_, _<_}
 use native.Mathlib.Omega.{arith}
-use native.Mathlib.Nat.{mod-lt, mod-mod, div-one, div-div-eq-div-mul, mod-eq-of-lt}
+use native.Mathlib.Nat.{mod-mod, div-one, div-div-eq-div-mul, mod-eq-of-lt}
 use lib.Arith.{mod-mul}
-use borrow.Author.Tests.{lt-ltb, le-ltb, ltb-true, ltb-false}
-use lib.Dec.{T, ltb, leb, eqb, lit<, leb→le, ltb→lt}
+use borrow.Author.Tests.{lt-ltb, le-ltb}
+use lib.Dec.{T, ltb, leb, lit<, leb→le, ltb→lt}
 use lib.IntN.{ℤ, pos, negsuc}
 use lib.Signed.{leZ, ltZ}
-use Rattle.rules.specs.Machine.{word, signed32, field4, read4, read8, byteOf}
+use Rattle.laws.proofs.Bools.{and-left}
+use Rattle.rules.specs.Machine.{word, signed32, field4, read4, read8}
 use Rattle.rules.specs.Range.{signed64}
 
 -- a value of the range of types 2, 11 and 23
@@ -50,14 +51,6 @@ unfolding read8
 read8-low m a = omega (arith, read4-lt m a, read4-lt m (a + 4))
 
 -- ---- a number below 2^64 whose signed reading lies in the range of types 2, 11 and 23
-
-pub and-left : (a b : Bool) → T (a && b) → T a
-and-left true b t = tt
-and-left false b t = t
-
-pub and-right : (a b : Bool) → T (a && b) → T b
-and-right true b t = t
-and-right false b t = absurd t
 
 pub in-signed : (x : ℕ) → x < word → T (between (negsuc 2147483647) (pos 2147483648) (signed64 x))
     → (x < 2 ^ 31) ⊎ (2 ^ 64 - 2 ^ 31 ≤ x)

@@ -1,198 +1,41 @@
--- Related forms: an old one through a slot, and the new one with which a filled field means the same. One law (`perform-same`) says so; the
--- flags and the push never unfold. Which bytes decode to related forms is computed over the prefix and ModRM bytes, one list a use (`Rows`).
--- Assumes nothing.
+-- Forms that go together: an old one through a slot, and the new one with which a filled field means the same. One law (`perform-same`) says
+-- so; the flags and the push never unfold. Assumes nothing.
 use mathlib.Core.Path.{_≡_, refl, sym, _∙_, subst, ap}
-use mathlib.Core.Logic.{_⊎_, inl, inr}
-use mathlib.Core.Bool.{Bool, true, false, not, _&&_, _||_, cond}
-use mathlib.Core.List.{List, [], _∷_, map}
-use Prim.Native.Nat.{ℕ, zero, suc, _+_, _-_, _*_, _/_, _%_, _^_, _≤_, _<_}
+use mathlib.Core.Bool.{Bool, true, false, _&&_, _||_, cond}
+use mathlib.Core.List.{List}
+use Prim.Native.Nat.{ℕ, _+_, _-_, _/_, _%_, _^_, _≤_, _<_}
 use native.Mathlib.Omega.{arith}
-use native.Mathlib.Nat.{mod-lt, mod-mod, mod-eq-of-lt, add-zero}
+use native.Mathlib.Nat.{mod-lt, mod-eq-of-lt, add-zero}
 use borrow.Author.Tests.{le-leb}
-use lib.Dec.{T, ltb, leb, eqb, lit<, eqb→eq}
+use lib.Dec.{T, eqb, lit<, eqb→eq}
 use lib.IntN.{ℤ, pos, negsuc}
-use lib.ListN.{length, getD}
+use lib.ListN.{length, getD, drop, length-drop}
+use lib.Seq.{getD-drop}
+use Rattle.laws.proofs.Bools.{parts, either}
+use Rattle.laws.proofs.Keys.{is}
 use Rattle.rules.specs.Range.{signed64, byteRange}
 use Rattle.rules.specs.Types.{lookup, earlierTypes, laterTypes}
-use Rattle.rules.specs.Choose.{inRange, isRexW}
-use Rattle.rules.specs.Rewrite.{relocated, wordOf, Holds, Filled}
-use Rattle.rules.specs.Machine.{State, Result, stop, stepped, word, size, signed32, fieldAt, read4, read8, load, Op, exec, push, Source, slot, imm, addr}
-use Rattle.rules.specs.Machine.{Form, bad, alu, call, jump, ripRelative, decodeAt, operand, perform, header, step}
+use Rattle.rules.specs.Choose.{inRange}
+use Rattle.rules.specs.Rewrite.{relocated, Holds, Filled}
+use Rattle.rules.specs.Machine.{State, Result, stepped, word, signed32, fieldAt, read4, read8, Source, slot, imm, addr}
+use Rattle.rules.specs.Machine.{Action, bad, move, alu, call, jump, Form, form, decode, operand, perform, stepAt, step}
 use Rattle.rules.specs.Meaning.{slotValue, Alike}
-use Rattle.rules.proofs.Arith.{between, and-left, and-right, field4-bytes, read8-lt, read8-mod, read8-low, in-signed, signed-low, signed-mod, back}
+use Rattle.rules.proofs.Arith.{between, field4-bytes, read8-lt, read8-mod, read8-low, in-signed, signed-low, signed-mod, back}
 
--- ---- which forms are related
+-- ---- the operand: a slot, and a filled field of the new type
 
--- the new type, and the counts of the bytes before the two fields
-pub data Related : Form → Form → ℕ → ℕ → ℕ → Type 0 where
-  wide : {o : Op} {k h : ℕ} → Related (alu o true k slot h) (alu o true k imm h) 11 h h
-  thread : {o : Op} {k h : ℕ} → Related (alu o true k slot h) (alu o true k imm h) 23 h h
-  narrow : {o : Op} {k h : ℕ} → Related (alu o false k slot h) (alu o false k imm h) 10 h h
-  lea : {o : Op} {w : Bool} {k h : ℕ} → Related (alu o w k slot h) (alu o w k addr h) 2 h h
-  calls : {h : ℕ} → Related (call slot h) (call addr h) 2 h h
-  jumps : {h g : ℕ} → Related (jump slot h) (jump addr g) 2 h g
+-- the addend that goes with a new type: −4 for the relative one, 0 for the absolute ones; what its field gives; the sizes that it serves
+abbrev pub addendFor : ℕ → ℤ
+addendFor t = cond (eqb t 2) (negsuc 3) (pos 0)
 
--- the new form that goes with an old one, and whether there is one
-abbrev after : ℕ → ℕ → Form → Form
-after t i bad = bad
-after t i (alu o w k f h) = alu o w k (cond (eqb t 2) addr imm) h
-after t i (call f h) = call addr h
-after t i (jump f h) = jump addr i
-
-abbrev isSlot : Source → Bool
-isSlot slot = true
-isSlot imm = false
-isSlot addr = false
+abbrev source : ℕ → Source
+source t = cond (eqb t 2) addr imm
 
 abbrev serves : ℕ → Bool → Bool
-serves t true = eqb t 2 || eqb t 11 || eqb t 23
-serves t false = eqb t 2 || eqb t 10
-
-abbrev suits : ℕ → ℕ → ℕ → Form → Bool
-suits t h i bad = false
-suits t h i (alu o w k f n) = isSlot f && eqb n h && eqb n i && serves t w
-suits t h i (call f n) = isSlot f && eqb n h && eqb n i && eqb t 2
-suits t h i (jump f n) = isSlot f && eqb n h && eqb t 2
-
-parts : {P : Type 0} (a b : Bool) → (T a → T b → P) → T (a && b) → P
-parts true b f t = f tt t
-parts false b f t = absurd t
-
-pub either : {P : Type 0} (a b : Bool) → (T a → P) → (T b → P) → T (a || b) → P
-either true b f g t = f tt
-either false b f g t = g t
-
-pub is : (P : ℕ → Type 0) (n m : ℕ) → P m → T (eqb n m) → P n
-is P n m p t = subst P (sym (eqb→eq n m t)) p
-
-alu-related : (o : Op) (k n t : ℕ) (w : Bool) → T (serves t w) → Related (alu o w k slot n) (after t n (alu o w k slot n)) t n n
-alu-related o k n t true =
-    either (eqb t 2 || eqb t 11) (eqb t 23)
-    (either (eqb t 2) (eqb t 11)
-    (is (λ (t : ℕ). Related (alu o true k slot n) (after t n (alu o true k slot n)) t n n) t 2 lea)
-    (is (λ (t : ℕ). Related (alu o true k slot n) (after t n (alu o true k slot n)) t n n) t 11 wide))
-    (is (λ (t : ℕ). Related (alu o true k slot n) (after t n (alu o true k slot n)) t n n) t 23 thread)
-alu-related o k n t false =
-    either (eqb t 2) (eqb t 10)
-    (is (λ (t : ℕ). Related (alu o false k slot n) (after t n (alu o false k slot n)) t n n) t 2 lea)
-    (is (λ (t : ℕ). Related (alu o false k slot n) (after t n (alu o false k slot n)) t n n) t 10 narrow)
-
-relate : (t h i : ℕ) (f : Form) → T (suits t h i f) → Related f (after t i f) t h i
-relate t h i bad s = absurd s
-relate t h i (alu o w k slot n) s =
-    parts (eqb n h && eqb n i) (serves t w)
-    (λ e v. parts (eqb n h) (eqb n i)
-    (λ p q. subst (λ (x : ℕ). Related (alu o w k slot n) (alu o w k (cond (eqb t 2) addr imm) n) t x i) (eqb→eq n h p)
-    (subst (λ (x : ℕ). Related (alu o w k slot n) (alu o w k (cond (eqb t 2) addr imm) n) t n x) (eqb→eq n i q) (alu-related o k n t w v))) e) s
-relate t h i (alu o w k imm n) s = absurd s
-relate t h i (alu o w k addr n) s = absurd s
-relate t h i (call slot n) s =
-    parts (eqb n h && eqb n i) (eqb t 2)
-    (λ e v. parts (eqb n h) (eqb n i)
-    (λ p q. is (λ (t : ℕ). Related (call slot n) (call addr n) t h i) t 2
-    (subst (λ (x : ℕ). Related (call slot n) (call addr n) 2 x i) (eqb→eq n h p)
-    (subst (λ (x : ℕ). Related (call slot n) (call addr n) 2 n x) (eqb→eq n i q) calls)) v) e) s
-relate t h i (call imm n) s = absurd s
-relate t h i (call addr n) s = absurd s
-relate t h i (jump slot n) s =
-    parts (eqb n h) (eqb t 2)
-    (λ p v. is (λ (t : ℕ). Related (jump slot n) (jump addr i) t h i) t 2 (subst (λ (x : ℕ). Related (jump slot n) (jump addr i) 2 x i) (eqb→eq n h p) jumps) v) s
-relate t h i (jump imm n) s = absurd s
-relate t h i (jump addr n) s = absurd s
-
--- ---- the finite part: a REX prefix or payload byte and a ModRM byte
-
-abbrev pub In : ℕ → List ℕ → Type 0
-In x [] = ⊥
-In x (y ∷ ys) = (x ≡ y) ⊎ In x ys
-
-pub at-in : {A : Type 0} (f g : ℕ → A) (xs : List ℕ) → map f xs ≡ map g xs → (x : ℕ) → In x xs → f x ≡ g x
-at-in f g [] e x m = absurd m
-at-in f g (y ∷ ys) e x (inl p) = rw p (cc)
-at-in f g (y ∷ ys) e x (inr m) = at-in f g ys (cc) x m
-
-abbrev prefixes : List ℕ
-prefixes = 0x48 ∷ 0x4C ∷ []
-
-abbrev modrms : List ℕ
-modrms = 0x05 ∷ 0x0D ∷ 0x15 ∷ 0x1D ∷ 0x25 ∷ 0x2D ∷ 0x35 ∷ 0x3D ∷ []
-
-prefix-in : (r : ℕ) → T (isRexW r) → In r prefixes
-prefix-in r = either (eqb r 0x48) (eqb r 0x4C) (λ t. inl (eqb→eq r 0x48 t)) (λ t. inr (inl (eqb→eq r 0x4C t)))
-
-rip-in : (m : ℕ) → T (ripRelative m) → In m modrms
-rip-in m t = go (m / 8) (omega (arith, low)) (omega (arith, high))
-  where
-    low : m / 64 ≡ 0
-    low = eqb→eq (m / 64) 0 (and-left (eqb (m / 64) 0) (eqb (m % 8) 5) t)
-
-    high : m % 8 ≡ 5
-    high = eqb→eq (m % 8) 5 (and-right (eqb (m / 64) 0) (eqb (m % 8) 5) t)
-
-    go : (k : ℕ) → k < 8 → m ≡ k * 8 + 5 → In m modrms
-    go zero h e = inl e
-    go (suc zero) h e = inr (inl e)
-    go (suc (suc zero)) h e = inr (inr (inl e))
-    go (suc (suc (suc zero))) h e = inr (inr (inr (inl e)))
-    go (suc (suc (suc (suc zero)))) h e = inr (inr (inr (inr (inl e))))
-    go (suc (suc (suc (suc (suc zero))))) h e = inr (inr (inr (inr (inr (inl e)))))
-    go (suc (suc (suc (suc (suc (suc zero)))))) h e = inr (inr (inr (inr (inr (inr (inl e))))))
-    go (suc (suc (suc (suc (suc (suc (suc zero))))))) h e = inr (inr (inr (inr (inr (inr (inr (inl e)))))))
-    go (suc (suc (suc (suc (suc (suc (suc (suc k)))))))) h e = absurd (omega arith)
-
--- what is claimed at a pair: the new form is the one that goes with the old, and there is one
-pub record Claim : Type 0 where
-  pub form : Form
-  pub holds : Bool
-
-abbrev has : (ℕ → Form) → ℕ → Claim
-has new m = record { form = new m; holds = true }
-
-abbrev wants : ℕ → ℕ → ℕ → (ℕ → Form) → ℕ → Claim
-wants t h i old m = record { form = after t i (old m); holds = suits t h i (old m) }
-
--- over the ModRM bytes, and over prefix and ModRM bytes: each is one `refl`, computed
-abbrev pub Row : ℕ → ℕ → ℕ → (ℕ → Form) → (ℕ → Form) → Type 0
-Row t h i old new = map (has new) modrms ≡ map (wants t h i old) modrms
-
-abbrev pub hasAll : (ℕ → ℕ → Form) → List (List Claim)
-hasAll new = map (λ (r : ℕ). map (has (new r)) modrms) prefixes
-
-abbrev pub wantsAll : ℕ → ℕ → ℕ → (ℕ → ℕ → Form) → List (List Claim)
-wantsAll t h i old = map (λ (r : ℕ). map (wants t h i (old r)) modrms) prefixes
-
-abbrev pub Rows : ℕ → ℕ → ℕ → (ℕ → ℕ → Form) → (ℕ → ℕ → Form) → Type 0
-Rows t h i old new = hasAll new ≡ wantsAll t h i old
-
-claimed : (t h i : ℕ) (old new : ℕ → Form) (m : ℕ) → has new m ≡ wants t h i old m → Related (old m) (new m) t h i
-claimed t h i old new m e =
-    subst (λ (g : Form). Related (old m) g t h i) (sym (ap (λ (c : Claim). c .form) e))
-    (relate t h i (old m) (subst T (ap (λ (c : Claim). c .holds) e) tt))
-
-pub row : (t h i : ℕ) (old new : ℕ → Form) → Row t h i old new → (m : ℕ) → T (ripRelative m) → Related (old m) (new m) t h i
-row t h i old new e m u = claimed t h i old new m (at-in (has new) (wants t h i old) modrms e m (rip-in m u))
-
-pub rows : (t h i : ℕ) (old new : ℕ → ℕ → Form) → Rows t h i old new → (r m : ℕ) → T (isRexW r) → T (ripRelative m) → Related (old r m) (new r m) t h i
-rows t h i old new e r m v u =
-    row t h i (old r) (new r)
-    (at-in (λ (r : ℕ). map (has (new r)) modrms) (λ (r : ℕ). map (wants t h i (old r)) modrms) prefixes e r (prefix-in r v)) m u
-
--- ---- related forms do the same, once the new field is filled
-
--- a step, once its form is known and it is whole
-pub step-form : (sec : List ℕ) (at base : ℕ) (s : State) (f : Form) → decodeAt sec at ≡ f → at + header f + 4 ≤ length sec
-    → step sec at base s ≡ perform f (fieldAt sec (at + header f)) ((base + at) % word) s
-unfolding step
-step-form sec at base s f e h = rw e (rw (le-leb _ _ h) refl)
-
--- ---- the three values
-
--- next, as the machine has it and as the record has it
-pub next-at : (base at h d : ℕ) → (((base + at) % word + h + 4) % word + d) % word ≡ (base + (at + h) + 4 + d) % word
-next-at base at h d = omega arith
+serves t w = eqb t 2 || cond w (eqb t 11 || eqb t 23) (eqb t 10)
 
 -- an absolute field of 32 bits, sign-extended to 64
-pub abs-wide : (v : ℕ) → v < word → T (between (negsuc 2147483647) (pos 2147483648) (signed64 ((v + 0) % word)))
+abs-wide : (v : ℕ) → v < word → T (between (negsuc 2147483647) (pos 2147483648) (signed64 ((v + 0) % word)))
     → signed32 ((v + 0) % word % 2 ^ 32) % word ≡ v
 abs-wide v h t =
     let e : (v + 0) % word ≡ v = omega arith in
@@ -200,13 +43,13 @@ abs-wide v h t =
     rw e (rw l (mod-eq-of-lt h))
 
 -- an absolute field of 32 bits, for a 32-bit operand
-pub abs-narrow : (m : ℕ → ℕ) (a : ℕ) → signed32 ((read8 m a + 0) % word % 2 ^ 32) % 2 ^ 32 ≡ read4 m a
+abs-narrow : (m : ℕ → ℕ) (a : ℕ) → signed32 ((read8 m a + 0) % word % 2 ^ 32) % 2 ^ 32 ≡ read4 m a
 abs-narrow m a =
     let e : (read8 m a + 0) % word % 2 ^ 32 ≡ read8 m a % 2 ^ 32 = omega arith in
     rw e (signed-mod (read8 m a % 2 ^ 32) (omega arith) ∙ read8-low m a)
 
 -- a field relative to its own address p, added to next
-pub rel-wide : (v p q : ℕ) → v < word → q ≡ (p + 4) % word
+rel-wide : (v p q : ℕ) → v < word → q ≡ (p + 4) % word
     → T (between (negsuc 2147483647) (pos 2147483648) (signed64 ((v + (word - 4) + (word - p % word)) % word)))
     → (q + signed32 ((v + (word - 4) + (word - p % word)) % word % 2 ^ 32)) % word ≡ v
 rel-wide v p q h e t =
@@ -214,86 +57,99 @@ rel-wide v p q h e t =
     let b : x < word = mod-lt (v + (word - 4) + (word - p % word)) (lit< tt) in
     rw (signed-low x b (in-signed x b t)) (back v p q h e)
 
--- ---- one law for all kinds: related forms, the new field filled
+-- the slot lies at q, the new field at p, and next is n
+module _ (s : State) (q p n : ℕ) (next : n ≡ (p + 4) % word) where
+  abbrev filled : ℕ → ℕ
+  filled t = relocated t (read8 (s .mem) q) (addendFor t) p
 
--- the addend that goes with a new type: -4 for the relative one, 0 for the absolute ones
-abbrev pub addendFor : ℕ → ℤ
-addendFor t = cond (eqb t 2) (negsuc 3) (pos 0)
+  abbrev Same : Bool → ℕ → Type 0
+  Same w t = T (inRange t (signed64 (filled t))) → operand (source t) w s (filled t % 2 ^ 32) n ≡ cond w read8 read4 (s .mem) q
 
-abbrev pub valueFor : ℕ → ℕ → ℕ → ℕ
-valueFor t v p = relocated t v (addendFor t) p
-
-module _ (sec new : List ℕ) (at base : ℕ) (s : State) where
-  abbrev Old : Form → Result
-  Old f = perform f (fieldAt sec (at + header f)) ((base + at) % word) s
-
-  abbrev New : Form → Result
-  New g = perform g (fieldAt new (at + header g)) ((base + at) % word) s
-
-  rel64 : (h g : ℕ) → T (between (negsuc 2147483647) (pos 2147483648) (signed64 (valueFor 2 (slotValue sec (at + h) base (s .mem)) (base + (at + g)))))
-      → (((base + at) % word + g + 4) % word + signed32 (valueFor 2 (slotValue sec (at + h) base (s .mem)) (base + (at + g)) % 2 ^ 32)) % word
-      ≡ slotValue sec (at + h) base (s .mem)
-  rel64 h g r =
-      rel-wide (slotValue sec (at + h) base (s .mem)) (base + (at + g)) (((base + at) % word + g + 4) % word) (read8-lt (s .mem) _) (omega arith) r
-
-  pub perform-same : {f g : Form} {t h i : ℕ} → Related f g t h i
-      → T (inRange t (signed64 (valueFor t (slotValue sec (at + h) base (s .mem)) (base + (at + i)))))
-      → fieldAt new (at + i) ≡ valueFor t (slotValue sec (at + h) base (s .mem)) (base + (at + i)) % 2 ^ 32
-      → New g ≡ Old f
+  pub operand-same : (w : Bool) (t : ℕ) → T (serves t w) → Same w t
   unfolding inRange lookup earlierTypes laterTypes byteRange
-  perform-same (wide {o} {k} {h}) r e =
-      rw (e, next-at base at h (signed32 (fieldAt sec (at + h))), abs-wide (slotValue sec (at + h) base (s .mem)) (read8-lt (s .mem) _) r)
-  perform-same (thread {o} {k} {h}) r e =
-      rw (e, next-at base at h (signed32 (fieldAt sec (at + h))), abs-wide (slotValue sec (at + h) base (s .mem)) (read8-lt (s .mem) _) r)
-  perform-same (narrow {o} {k} {h}) r e =
-      rw (e, next-at base at h (signed32 (fieldAt sec (at + h))), abs-narrow (s .mem))
-  perform-same (lea {w = true} {h = h}) r e =
-      rw (e, next-at base at h (signed32 (fieldAt sec (at + h))), rel64 h h r, read8-mod)
-  perform-same (lea {w = false} {h = h}) r e =
-      rw (e, next-at base at h (signed32 (fieldAt sec (at + h))), rel64 h h r, read8-low)
-  perform-same (calls {h}) r e =
-      rw (e, next-at base at h (signed32 (fieldAt sec (at + h))), rel64 h h r, read8-mod)
-  perform-same (jumps {h} {g}) r e =
-      rw (e, next-at base at h (signed32 (fieldAt sec (at + h))), rel64 h g r, read8-mod)
+  operand-same true t =
+      either (eqb t 2) (eqb t 11 || eqb t 23)
+      (is (Same true) t 2 λ r. rw (rel-wide (read8 (s .mem) q) p n (read8-lt (s .mem) q) next r, read8-mod))
+      (either (eqb t 11) (eqb t 23)
+      (is (Same true) t 11 (abs-wide (read8 (s .mem) q) (read8-lt (s .mem) q)))
+      (is (Same true) t 23 (abs-wide (read8 (s .mem) q) (read8-lt (s .mem) q))))
+  operand-same false t =
+      either (eqb t 2) (eqb t 10)
+      (is (Same false) t 2 λ r. rw (rel-wide (read8 (s .mem) q) p n (read8-lt (s .mem) q) next r, read8-low))
+      (is (Same false) t 10 λ r. abs-narrow (s .mem) q)
 
--- ---- the step
+-- ---- the action, with another source
 
-goes : {f g : Form} {t h i : ℕ} → Related f g t h i → (d a : ℕ) (s : State) {y : Result} → y ≡ perform f d a s → Alike (perform f d a s) y
-goes wide d a s e = record { after = _; goesOn = _; first = refl; second = e }
-goes thread d a s e = record { after = _; goesOn = _; first = refl; second = e }
-goes narrow d a s e = record { after = _; goesOn = _; first = refl; second = e }
-goes lea d a s e = record { after = _; goesOn = _; first = refl; second = e }
-goes calls d a s e = record { after = _; goesOn = _; first = refl; second = e }
-goes jumps d a s e = record { after = _; goesOn = _; first = refl; second = e }
+abbrev via : Source → Action → Action
+via f bad = bad
+via f (move w k _) = move w k f
+via f (alu o w r k _ b) = alu o w r k f b
+via f (call _) = call f
+via f (jump _) = jump f
 
-header-old : {f g : Form} {t h i : ℕ} → Related f g t h i → header f ≡ h
-header-old wide = refl
-header-old thread = refl
-header-old narrow = refl
-header-old lea = refl
-header-old calls = refl
-header-old jumps = refl
+-- whether type t serves an action's size; all but a jump go on at next, which must then be the same
+abbrev suits : ℕ → Bool → Action → Bool
+suits t same bad = false
+suits t same (move w k f) = same && serves t w
+suits t same (alu o w r k f b) = same && serves t w
+suits t same (call f) = same && serves t true
+suits t same (jump f) = serves t true
 
-header-new : {f g : Form} {t h i : ℕ} → Related f g t h i → header g ≡ i
-header-new wide = refl
-header-new thread = refl
-header-new narrow = refl
-header-new lea = refl
-header-new calls = refl
-header-new jumps = refl
+ends : {s : State} {n : ℕ} {x : Result} → x ≡ stepped s n → Alike (stepped s n) x
+ends e = record { after = _; goesOn = _; first = refl; second = e }
+
+module _ (t : ℕ) (same : Bool) (s : State) (d n e m : ℕ) (next : T same → m ≡ n)
+    (value : (w : Bool) → T (serves t w) → operand (source t) w s e m ≡ operand slot w s d n) where
+  perform-same : (a : Action) → T (suits t same a) → Alike (perform (via slot a) d n s) (perform (via (source t) a) e m s)
+  perform-same bad h = absurd h
+  perform-same (move w k f) h = parts same (serves t w) (λ p v. ends (rw (value w v, next p))) h
+  perform-same (alu o w r k f b) h = parts same (serves t w) (λ p v. ends (rw (value w v, next p))) h
+  perform-same (call f) h = parts same (serves t true) (λ p v. ends (rw (value true v, next p))) h
+  perform-same (jump f) h = ends (rw (value true h))
+
+-- ---- the form: n bytes before the old field, i before the new one
+
+-- as one value, so that a table of such claims is computed
+pub record Claim : Type 0 where
+  pub old : Form
+  pub new : Form
+  pub suited : Bool
+
+abbrev pub claimed : Form → Form → Claim
+claimed f g = record { old = f; new = g; suited = true }
+
+abbrev pub wanted : ℕ → ℕ → ℕ → Form → Claim
+wanted t n i f =
+    record { old = form (via slot (f .action)) (n + 4); new = form (via (source t) (f .action)) (i + 4); suited = suits t (eqb n i) (f .action) }
+
+abbrev pub Related : ℕ → ℕ → ℕ → Form → Form → Type 0
+Related t n i f g = claimed f g ≡ wanted t n i f
 
 -- the four bytes that a filled field holds, as one number
-pub field-of : {old new : List ℕ} {at x : ℕ} → Holds old new at x → fieldAt new at ≡ x % 2 ^ 32
+field-of : {old new : List ℕ} {at x : ℕ} → Holds old new at x → fieldAt new at ≡ x % 2 ^ 32
 field-of {new = new} {at} {x} h =
     let e : getD new at 0 ≡ x / 256 ^ 0 % 256 = ap (λ (i : ℕ). getD new i 0) (sym (add-zero at)) ∙ h .field 0 (lit< tt) in
     rw (e, h .field 1 (lit< tt), h .field 2 (lit< tt), h .field 3 (lit< tt)) (field4-bytes x)
 
-module _ (sec new : List ℕ) (at base : ℕ) (s : State) where
-  pub step-same : {t h i : ℕ} → Related (decodeAt sec at) (decodeAt new at) t h i → at + h + 4 ≤ length sec → at + i + 4 ≤ length new
-      → (old : List ℕ) → Filled t (addendFor t) (at + i) base (slotValue sec (at + h) base (s .mem)) old new
-      → Alike (step sec at base s) (step new at base s)
-  step-same {t} {h} {i} r n m old c =
-      let a : at + header (decodeAt sec at) + 4 ≤ length sec = rw (header-old r) n in
-      let b : at + header (decodeAt new at) + 4 ≤ length new = rw (header-new r) m in
-      rw (step-form sec at base s (decodeAt sec at) refl a, step-form new at base s (decodeAt new at) refl b)
-      (goes r (fieldAt sec (at + header (decodeAt sec at))) ((base + at) % word) s (perform-same sec new at base s r (c .range) (field-of (c .holds))))
+-- a step whose field stands after n bytes, at `off`
+step-is : (sec : List ℕ) (at base off n : ℕ) (s : State) (a : Action) → off ≡ at + n → decode (drop at sec) ≡ form a (n + 4) → off + 4 ≤ length sec
+    → step sec at base s ≡ perform a (fieldAt sec off) ((base + off + 4) % word) s
+unfolding stepAt
+step-is sec at base off n s a o e h =
+    let w : n + 4 ≤ length (drop at sec) = simp length-drop (omega arith) in
+    let z : n + 4 - 4 ≡ n = omega arith in
+    let p : ((base + at) % word + (n + 4)) % word ≡ (base + off + 4) % word = omega arith in
+    let i : (k : ℕ) → at + (n + k) ≡ off + k = λ k. omega arith in
+    rw (e, le-leb _ _ w, z, p) (simp (getD-drop, i, sym o))
+
+-- steps of related forms end alike, once the new field is filled
+pub step-same : (sec new : List ℕ) (at base off noff n i : ℕ) (s : State) {t : ℕ} → Related t n i (decode (drop at sec)) (decode (drop at new))
+    → off ≡ at + n → noff ≡ at + i → off + 4 ≤ length sec → noff + 4 ≤ length new
+    → (old : List ℕ) → Filled t (addendFor t) noff base (slotValue sec off base (s .mem)) old new
+    → Alike (step sec at base s) (step new at base s)
+step-same sec new at base off noff n i s {t} r o p h k old c =
+    let next : ((base + off + 4) % word + signed32 (fieldAt sec off)) % word ≡ (base + off + 4 + signed32 (fieldAt sec off)) % word = omega arith in
+    rw (step-is sec at base off n s _ o (ap (λ (c : Claim). c .old) r) h, step-is new at base noff i s _ p (ap (λ (c : Claim). c .new) r) k)
+    (perform-same t (eqb n i) s _ _ _ _ (λ q. let e = eqb→eq n i q in omega arith)
+    (λ w v. rw (field-of (c .holds), next) (operand-same s _ (base + noff) _ refl w t v (c .range)))
+    (decode (drop at sec) .action) (subst T (ap (λ (c : Claim). c .suited) r) tt))

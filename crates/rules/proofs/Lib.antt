@@ -5,5 +5,8 @@ pub mod Runs
 pub mod Arith
 pub mod Forms
 pub mod Places
+pub mod Walked
+pub mod Chosen
 pub mod Theorem
 pub mod Instances
+pub mod Kept

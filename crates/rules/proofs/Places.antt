@@ -1,58 +1,118 @@
--- Each kind that the rules choose for these types, with its header bytes in a section: the rewritten section with its field filled means
--- the same. The instruction begins 2, 3 or 4 bytes before the field; what stands there is read back from the run of stores.
+-- Each kind that the rules choose for these types, by the bytes before the field and the stores among them (`Change`): the rewritten section
+-- with its field filled means the same. The instruction begins n bytes before the field: 2, 3 with REX, or 4 with REX2 (`Start`).
 -- Assumes nothing.
-use mathlib.Core.Path.{_≡_, refl, sym, _∙_, subst, subst₂, ap}
-use mathlib.Core.List.{List, [], _∷_, map}
-use Prim.Native.Nat.{ℕ, zero, suc, _+_, _-_, _≤_, _<_}
+use mathlib.Core.Path.{_≡_, refl, sym, _∙_, subst₂, ap, ap₂}
+use mathlib.Core.Bool.{cond}
+use mathlib.Core.List.{List, [], _∷_, _++_, map}
+use Prim.Native.Nat.{ℕ, zero, suc, _+_, _-_, _*_, _/_, _%_, _≤_, _<_}
 use native.Mathlib.Omega.{arith}
-use lib.Dec.{T, lit<}
-use lib.ListN.{length, getD, set, length-set}
-use lib.Seq.{getD-set-same, getD-set-other, sets, length-sets}
-use lib.IntN.{pos, negsuc}
+use lib.Dec.{T, leb, eqb, eqb→eq, leb→le, lit<}
+use lib.ListN.{length, getD, take, drop}
+use lib.Seq.{sets, length-sets, drop-cons}
+use Rattle.laws.proofs.Keys.{down, at-down}
+use Rattle.laws.proofs.Stores.{drop-sets}
 use Rattle.rules.specs.Choose.{isRexW}
-use Rattle.rules.specs.Kinds.{MovIndirectToLea, MovIndirectToAbsolute, CallIndirectToRelative, JmpIndirectToRelative}
-use Rattle.rules.specs.Rewrite.{rewritten, rexMoved, rex2Moved, moved, direct, toAbsolute, Holds, Filled}
-use Rattle.rules.specs.Machine.{State, ripRelative, Form, decode, decodeAt, step}
+use Rattle.rules.specs.Rewrite.{rexMoved, rex2Moved, moved, direct, toAbsolute, Filled}
+use Rattle.rules.specs.Machine.{State, ripRelative, Form, byDigit, viaRip, onRegister, opcode, decode, step}
 use Rattle.rules.specs.Meaning.{slotValue, Alike}
-use Rattle.rules.proofs.Forms.{Related, calls, jumps, In, at-in, Row, Rows, hasAll, wantsAll, row, rows, addendFor, step-same}
+use Rattle.laws.proofs.Bools.{and-left, and-right, either}
+use Rattle.rules.proofs.Forms.{addendFor, Claim, claimed, wanted, Related, step-same}
 
-pub here : (l : List ℕ) (i j a : ℕ) → i < length l → j ≡ i → getD (set l i a) j 0 ≡ a
-here l i j a h e = ap (λ (n : ℕ). getD (set l i a) n 0) e ∙ getD-set-same l i a 0 h
+-- ---- a change: the new type, the counts of bytes before the old field and before the new one, these bytes by the prefix or payload byte r
+-- and the ModRM byte m, and what is stored among them, from where
 
-pub there : (l : List ℕ) (i j a : ℕ) → (j ≡ i → ⊥) → getD (set l i a) j 0 ≡ getD l j 0
-there l i j a n = getD-set-other l i j a 0 n
+pub record Change : Type 0 where
+  pub type : ℕ
+  pub old : ℕ
+  pub new : ℕ
+  pub from : ℕ
+  pub opens : ℕ → ℕ → List ℕ
+  pub stores : ℕ → ℕ → List ℕ
 
-pub index : (l : List ℕ) {i j : ℕ} → i ≡ j → getD l i 0 ≡ getD l j 0
-index l e = ap (λ (n : ℕ). getD l n 0) e
+abbrev change : ℕ → ℕ → ℕ → ℕ → (ℕ → ℕ → List ℕ) → (ℕ → ℕ → List ℕ) → Change
+change t n i j o v = record { type = t; old = n; new = i; from = j; opens = o; stores = v }
 
-pub decoded : {a b c d a′ b′ c′ d′ : ℕ} → a ≡ a′ → b ≡ b′ → c ≡ c′ → d ≡ d′ → decode a b c d ≡ decode a′ b′ c′ d′
-decoded p q r s i = decode (p i) (q i) (r i) (s i)
+-- the old form, and the new one, whatever follows
+abbrev oldForm : Change → List ℕ → ℕ → ℕ → Form
+oldForm c l r m = decode (c .opens r m ++ l)
 
--- `step-same` with the offsets named
-pub same-at : (sec new : List ℕ) (at base off noff : ℕ) (s : State) {t h i : ℕ} {f g : Form}
-    → decodeAt sec at ≡ f → decodeAt new at ≡ g → Related f g t h i → at + h ≡ off → at + i ≡ noff
-    → off + 4 ≤ length sec → noff ≤ off
-    → (old : List ℕ) → length old ≡ length sec → Filled t (addendFor t) noff base (slotValue sec off base (s .mem)) old new
-    → Alike (step sec at base s) (step new at base s)
-same-at sec new at base off noff s {t} {h} {i} {f} {g} ef eg r eo en n m old k c =
-    step-same sec new at base s
-    (subst₂ (λ (x y : Form). Related x y t h i) (sym ef) (sym eg) r)
-    (omega arith) (omega (arith, c .holds .size)) old
-    (subst₂ (λ (x y : ℕ). Filled t (addendFor t) y base (slotValue sec x base (s .mem)) old new) (sym eo) (sym en) c)
+abbrev newForm : Change → List ℕ → List ℕ → ℕ → ℕ → Form
+newForm c l k r m = decode (take (c .new) (sets (c .opens r m ++ l) (c .from) (c .stores r m)) ++ k)
 
--- ---- a run of stores, read back
+-- ---- the finite part: a REX prefix or payload byte with W, and a RIP-relative ModRM byte, are two of 16 pairs
 
-pub run-before : (vs l : List ℕ) (i j : ℕ) → j < i → getD (sets l i vs) j 0 ≡ getD l j 0
-run-before [] l i j h = refl
-run-before (a ∷ vs) l i j h = run-before vs (set l i a) (suc i) j (omega arith) ∙ there l i j a (omega arith)
+abbrev prefixOf : ℕ → ℕ
+prefixOf x = 0x48 + x / 8 * 4
 
-pub run-at : (vs l : List ℕ) (i k j : ℕ) → j ≡ i + k → k < length vs → i + length vs ≤ length l → getD (sets l i vs) j 0 ≡ getD vs k 0
-run-at [] l i k j e h n = absurd (omega arith)
-run-at (a ∷ vs) l i zero j e h n = run-before vs (set l i a) (suc i) j (omega arith) ∙ here l i j a (omega arith) (omega arith)
-run-at (a ∷ vs) l i (suc k) j e h n = run-at vs (set l i a) (suc i) k j (omega arith) (omega arith) (omega (arith, length-set l i a))
+abbrev modrmOf : ℕ → ℕ
+modrmOf x = x % 8 * 8 + 5
 
--- ---- the kinds to an absolute field: opcode, new opcode, its digit, and the new type; one test over these, prefix and ModRM, for REX and REX2
+by-pair : (P : ℕ → ℕ → Type 0) → ((x : ℕ) → x < 16 → P (prefixOf x) (modrmOf x)) → (r m : ℕ) → T (isRexW r) → T (ripRelative m) → P r m
+by-pair P f r m v u =
+    let low : m / 64 ≡ 0 = eqb→eq (m / 64) 0 (and-left (eqb (m / 64) 0) (eqb (m % 8) 5) u) in
+    let high : m % 8 ≡ 5 = eqb→eq (m % 8) 5 (and-right (eqb (m / 64) 0) (eqb (m % 8) 5) u) in
+    either (eqb r 0x48) (eqb r 0x4C)
+    (λ t. subst₂ P (sym (eqb→eq r 0x48 t ∙ omega arith)) (omega arith) (f (m / 8) (omega arith)))
+    (λ t. subst₂ P (sym (eqb→eq r 0x4C t ∙ omega arith)) (omega arith) (f (8 + m / 8) (omega arith))) v
 
+-- a change's claims at the pairs: each list is one `refl`
+abbrev has : Change → List ℕ → List ℕ → ℕ → Claim
+has c l k x = claimed (oldForm c l (prefixOf x) (modrmOf x)) (newForm c l k (prefixOf x) (modrmOf x))
+
+abbrev wants : Change → List ℕ → ℕ → Claim
+wants c l x = wanted (c .type) (c .old) (c .new) (oldForm c l (prefixOf x) (modrmOf x))
+
+abbrev hasAll : Change → List ℕ → List ℕ → List Claim
+hasAll c l k = map (has c l k) (down 16)
+
+abbrev wantsAll : Change → List ℕ → List Claim
+wantsAll c l = map (wants c l) (down 16)
+
+abbrev Goes : Change → ℕ → ℕ → Type 0
+Goes c r m = (l k : List ℕ) → Related (c .type) (c .old) (c .new) (oldForm c l r m) (newForm c l k r m)
+
+rows : (c : Change) → ((l k : List ℕ) → hasAll c l k ≡ wantsAll c l) → (r m : ℕ) → T (isRexW r) → T (ripRelative m) → Goes c r m
+rows c e r m v u l k =
+    by-pair (λ (r m : ℕ). Related (c .type) (c .old) (c .new) (oldForm c l r m) (newForm c l k r m))
+    (at-down (has c l k) (wants c l) 16 (e l k)) r m v u
+
+-- a section of which n bytes are kept: so are the first i of the part that starts i before n
+kept : (old new : List ℕ) (i at n : ℕ) → n ≡ at + i → n ≤ length old → length new ≡ length old
+    → ((j : ℕ) → j < n → getD new j 0 ≡ getD old j 0) → drop at new ≡ take i (drop at old) ++ drop n new
+kept old new zero at n e h z b = let p : at ≡ n = omega arith in rw p
+kept old new (suc i) at n e h z b =
+    drop-cons new at 0 (omega arith)
+    ∙ (ap₂ _∷_ (b at (omega arith)) (kept old new i (suc at) n (omega arith) h z b)
+    ∙ sym (ap (λ (l : List ℕ). take (suc i) l ++ drop n new) (drop-cons old at 0 (omega arith))))
+
+module _ (sec new : List ℕ) (off base : ℕ) (s : State) (whole : off + 4 ≤ length sec) where
+  -- one law for all kinds
+  at-change : (c : Change) (r m : ℕ) → Goes c r m → (at noff w : ℕ) → drop at sec ≡ c .opens r m ++ drop off sec
+      → off ≡ at + c .old → noff ≡ at + c .new → w ≡ at + c .from → noff ≤ off
+      → Filled (c .type) (addendFor (c .type)) noff base (slotValue sec off base (s .mem)) (sets sec w (c .stores r m)) new
+      → Alike (step sec at base s) (step new at base s)
+  at-change c r m e at noff w d o p q n f =
+      let old : List ℕ = sets sec w (c .stores r m) in
+      let z : length old ≡ length sec = length-sets sec w (c .stores r m) in
+      let k : drop at new ≡ take (c .new) (sets (c .opens r m ++ drop off sec) (c .from) (c .stores r m)) ++ drop noff new
+      = kept old new (c .new) at noff p (omega arith) (f .holds .size) (f .holds .before)
+      ∙ ap (λ (l : List ℕ). take (c .new) l ++ drop noff new)
+      (drop-sets (c .stores r m) sec at (c .from) w q ∙ ap (λ (l : List ℕ). sets l (c .from) (c .stores r m)) d) in
+      let x : Related (c .type) (c .old) (c .new) (decode (drop at sec)) (decode (drop at new))
+      = rw (d, k) (e (drop off sec) (drop noff new)) in
+      step-same sec new at base off noff (c .old) (c .new) s x o p whole (omega (arith, f .holds .size)) old f
+
+-- ---- the changes
+
+-- the prefix of an instruction that begins n bytes before its field, where r is its REX byte or REX2 payload
+abbrev prefix : ℕ → ℕ → List ℕ
+prefix n r = cond (eqb n 4) (0xD5 ∷ r ∷ []) (cond (eqb n 3) (r ∷ []) [])
+
+-- mov to lea
+abbrev lea : ℕ → Change
+lea n = change 2 n n (n - 2) (λ r m. prefix n r ++ 0x8B ∷ m ∷ []) (λ r m. 0x8D ∷ [])
+
+-- after a prefix, to an absolute field: mov, sub, cmp to type 11; mov, add to type 23. The opcode, the new one, its digit, the new type
 abbrev pub oldOps : List ℕ
 oldOps = 0x8B ∷ 0x2B ∷ 0x3B ∷ 0x8B ∷ 0x03 ∷ []
 
@@ -65,194 +125,104 @@ digits = 0 ∷ 5 ∷ 7 ∷ 0 ∷ 0 ∷ []
 abbrev pub newTypes : List ℕ
 newTypes = 11 ∷ 11 ∷ 11 ∷ 23 ∷ 23 ∷ []
 
-abbrev old3 : ℕ → ℕ → ℕ → ℕ → Form
-old3 d i r m = decode r (getD oldOps i 0) m d
+abbrev absolute : ℕ → ℕ → Change
+absolute n i =
+    change (getD newTypes i 0) n n (n - 3) (λ r m. prefix n r ++ getD oldOps i 0 ∷ m ∷ [])
+    (λ r m. moved n r ∷ getD newOps i 0 ∷ direct (getD digits i 0) m ∷ [])
 
-abbrev new3 : ℕ → ℕ → ℕ → ℕ → Form
-new3 e i r m = decode (moved 3 r) (getD newOps i 0) (direct (getD digits i 0) m) e
+-- without a prefix: mov to an absolute field, call, jmp
+abbrev mov : Change
+mov = change 10 2 2 0 (λ r m. 0x8B ∷ m ∷ []) (λ r m. 0xC7 ∷ direct 0 m ∷ [])
 
-abbrev old4 : ℕ → ℕ → ℕ → Form
-old4 i r m = decode 0xD5 r (getD oldOps i 0) m
+abbrev call : Change
+call = change 2 2 2 0 (λ r m. 0xFF ∷ 0x15 ∷ []) (λ r m. 0x67 ∷ 0xE8 ∷ [])
 
-abbrev new4 : ℕ → ℕ → ℕ → Form
-new4 i r m = decode 0xD5 (moved 4 r) (getD newOps i 0) (direct (getD digits i 0) m)
+abbrev jmp : Change
+jmp = change 2 2 1 0 (λ r m. 0xFF ∷ 0x25 ∷ []) (λ r m. 0xE9 ∷ 0 ∷ 0 ∷ 0 ∷ 0 ∷ 0x90 ∷ [])
 
-abbrev pub ops : List ℕ
-ops = 0 ∷ 1 ∷ 2 ∷ 3 ∷ 4 ∷ []
+-- ---- where the instruction starts
 
-table : (d e : ℕ) → map (λ (i : ℕ). hasAll (new3 e i) ∷ hasAll (new4 i) ∷ []) ops ≡ map (λ (i : ℕ). wantsAll (getD newTypes i 0) 3 3 (old3 d i) ∷ wantsAll (getD newTypes i 0) 4 4 (old4 i) ∷ []) ops
-unfolding decode rexMoved rex2Moved
-table d e = refl
+pub data Start (sec : List ℕ) (off : ℕ) : ℕ → Type 0 where
+  plain : 2 ≤ off → Start sec off 2
+  rex : 3 ≤ off → T (isRexW (getD sec (off - 3) 0)) → Start sec off 3
+  rex2 : 4 ≤ off → T (eqb (getD sec (off - 4) 0) 0xD5) → T (isRexW (getD sec (off - 3) 0)) → Start sec off 4
 
-pub table3 : (i : ℕ) → In i ops → (d e : ℕ) → Rows (getD newTypes i 0) 3 3 (old3 d i) (new3 e i)
-table3 i p d e = let q = at-in (λ (i : ℕ). hasAll (new3 e i) ∷ hasAll (new4 i) ∷ []) (λ (i : ℕ). wantsAll (getD newTypes i 0) 3 3 (old3 d i) ∷ wantsAll (getD newTypes i 0) 4 4 (old4 i) ∷ []) ops (table d e) i p in cc
+bounds : {sec : List ℕ} {off n : ℕ} → Start sec off n → (2 ≤ n) × (n ≤ off)
+bounds (plain h) = (lit< tt, h)
+bounds (rex h v) = (lit< tt, h)
+bounds (rex2 h d v) = (lit< tt, h)
 
-pub table4 : (i : ℕ) → In i ops → Rows (getD newTypes i 0) 4 4 (old4 i) (new4 i)
-table4 i p = let q = at-in (λ (i : ℕ). hasAll (new3 0 i) ∷ hasAll (new4 i) ∷ []) (λ (i : ℕ). wantsAll (getD newTypes i 0) 3 3 (old3 0 i) ∷ wantsAll (getD newTypes i 0) 4 4 (old4 i) ∷ []) ops (table 0 0) i p in cc
+module _ (sec : List ℕ) (off : ℕ) (rip : T (ripRelative (getD sec (off - 1) 0))) where
+  abbrev r : ℕ
+  r = getD sec (off - 3) 0
 
--- ---- rows that no kind shares
+  abbrev m : ℕ
+  m = getD sec (off - 1) 0
 
-lea3 : (d e : ℕ) → Rows 2 3 3 (λ (r m : ℕ). decode r 0x8B m d) (λ (r m : ℕ). decode r 0x8D m e)
-unfolding decode
-lea3 d e = refl
+  lea-goes : {n : ℕ} → Start sec off n → Goes (lea n) r m
+  unfolding byDigit viaRip onRegister opcode decode
+  lea-goes (plain h) = rows (lea 2) (λ l k. refl) 0x48 m tt rip
+  lea-goes (rex h v) = rows (lea 3) (λ l k. refl) r m v rip
+  lea-goes (rex2 h d v) = rows (lea 4) (λ l k. refl) r m v rip
 
-lea4 : Rows 2 4 4 (λ (r m : ℕ). decode 0xD5 r 0x8B m) (λ (r m : ℕ). decode 0xD5 r 0x8D m)
-unfolding decode
-lea4 = refl
+  absolute-goes : {n : ℕ} → Start sec off n → T (leb 3 n) → (i : ℕ) → i < 5 → Goes (absolute n i) r m
+  unfolding byDigit viaRip onRegister opcode decode rexMoved rex2Moved
+  absolute-goes (plain h) t i g = absurd t
+  absolute-goes (rex h v) t i g =
+      rows (absolute 3 i) (λ l k. at-down (λ (i : ℕ). hasAll (absolute 3 i) l k) (λ (i : ℕ). wantsAll (absolute 3 i) l) 5 refl i g) r m v rip
+  absolute-goes (rex2 h d v) t i g =
+      rows (absolute 4 i) (λ l k. at-down (λ (i : ℕ). hasAll (absolute 4 i) l k) (λ (i : ℕ). wantsAll (absolute 4 i) l) 5 refl i g) r m v rip
 
-lea2 : (c d e f : ℕ) → Row 2 2 2 (λ (m : ℕ). decode 0x8B m c d) (λ (m : ℕ). decode 0x8D m e f)
-unfolding decode
-lea2 c d e f = refl
-
-mov2 : (c d e f : ℕ) → Row 10 2 2 (λ (m : ℕ). decode 0x8B m c d) (λ (m : ℕ). decode 0xC7 (direct 0 m) e f)
-unfolding decode
-mov2 c d e f = refl
-
-call2 : (c d e f : ℕ) → Related (decode 0xFF 0x15 c d) (decode 0x67 0xE8 e f) 2 2 2
-unfolding decode
-call2 c d e f = calls
-
-jmp2 : (c d e f g : ℕ) → Related (decode 0xFF 0x25 c d) (decode 0xE9 e f g) 2 2 1
-unfolding decode
-jmp2 c d e f g = jumps
-
--- ---- the kinds
+-- ---- the kinds, in a section
 
 module _ (sec new : List ℕ) (off base : ℕ) (s : State) (whole : off + 4 ≤ length sec) where
-  -- a byte before the field, in the run and before it
-  in-run : (vs : List ℕ) (w noff x k j : ℕ) → Holds (sets sec w vs) new noff x → j ≡ w + k → k < length vs → w + length vs ≤ length sec → j < noff
-      → getD new j 0 ≡ getD vs k 0
-  in-run vs w noff x k j c e h n b = c .before j b ∙ run-at vs sec w k j e h n
+  next : (i j : ℕ) → j ≡ i + 1 → j ≤ off → drop i sec ≡ getD sec i 0 ∷ drop j sec
+  next i j e h = let p : suc i ≡ j = omega arith in rw p at (drop-cons sec i 0 (omega arith))
 
-  pre-run : (vs : List ℕ) (w noff x j : ℕ) → Holds (sets sec w vs) new noff x → j < w → j < noff → getD new j 0 ≡ getD sec j 0
-  pre-run vs w noff x j c e b = c .before j b ∙ run-before vs sec w j e
+  two : 2 ≤ off → drop (off - 2) sec ≡ getD sec (off - 2) 0 ∷ getD sec (off - 1) 0 ∷ drop off sec
+  two h = rw (next (off - 2) (off - 1) (omega arith) (omega arith), next (off - 1) off (omega arith) (omega arith))
 
-  -- ---- the new header bytes: a run of stores at w that ends at the field or before it
+  opened : {n : ℕ} → Start sec off n
+      → drop (off - n) sec ≡ (prefix n (getD sec (off - 3) 0) ++ getD sec (off - 2) 0 ∷ getD sec (off - 1) 0 ∷ []) ++ drop off sec
+  opened (plain h) = two h
+  opened (rex h v) = rw (next (off - 3) (off - 2) (omega arith) (omega arith), two (omega arith))
+  opened (rex2 h d v) =
+      rw (next (off - 4) (off - 3) (omega arith) (omega arith), eqb→eq (getD sec (off - 4) 0) 0xD5 d, next (off - 3) (off - 2) (omega arith) (omega arith), two (omega arith))
 
-  -- REX prefix or REX2 payload, opcode, ModRM: the ith of the operations above
-  module _ (i : ℕ) (known : In i ops) (op : getD sec (off - 2) 0 ≡ getD oldOps i 0) (pre : T (isRexW (getD sec (off - 3) 0))) (rip : T (ripRelative (getD sec (off - 1) 0))) where
-    abbrev t : ℕ
-    t = getD newTypes i 0
+  abbrev Means : ℕ → ℕ → ℕ → List ℕ → Type 0
+  Means n t noff old =
+      Filled t (addendFor t) noff base (slotValue sec off base (s .mem)) old new → Alike (step sec (off - n) base s) (step new (off - n) base s)
 
-    abbrev stores : ℕ → List ℕ
-    stores n = moved n (getD sec (off - 3) 0) ∷ getD newOps i 0 ∷ direct (getD digits i 0) (getD sec (off - 1) 0) ∷ []
+  pub lea-at : {n : ℕ} → Start sec off n → getD sec (off - 2) 0 ≡ 0x8B → T (ripRelative (getD sec (off - 1) 0)) → Means n 2 off (sets sec (off - 2) (0x8D ∷ []))
+  lea-at {n} b op rip =
+      let h = bounds b in
+      at-change sec new off base s whole (lea n) _ _ (lea-goes sec off rip b) (off - n) off (off - 2)
+      (rw op at (opened b)) (omega arith) (omega arith) (omega arith) (omega arith)
 
-    pub abs3 : 3 ≤ off → Filled t (addendFor t) off base (slotValue sec off base (s .mem)) (toAbsolute 3 (getD newOps i 0) (getD digits i 0) sec off) new
-        → Alike (step sec (off - 3) base s) (step new (off - 3) base s)
-    abs3 low c =
-        same-at sec new (off - 3) base off off s
-        (decoded refl (index sec (omega arith) ∙ op) (index sec (omega arith)) refl)
-        (decoded
-        (in-run (stores 3) (off - 3) off _ 0 (off - 3) (c .holds) (omega arith) (lit< tt) (omega arith) (omega arith))
-        (in-run (stores 3) (off - 3) off _ 1 (off - 3 + 1) (c .holds) (omega arith) (lit< tt) (omega arith) (omega arith))
-        (in-run (stores 3) (off - 3) off _ 2 (off - 3 + 2) (c .holds) (omega arith) (lit< tt) (omega arith) (omega arith))
-        refl)
-        (rows t 3 3 (old3 (getD sec (off - 3 + 3) 0) i) (new3 (getD new (off - 3 + 3) 0) i) (table3 i known _ _) (getD sec (off - 3) 0) (getD sec (off - 1) 0) pre rip)
-        (omega arith) (omega arith) whole (omega arith) (toAbsolute 3 (getD newOps i 0) (getD digits i 0) sec off) (length-sets sec (off - 3) (stores 3)) c
+  pub absolute-at : {n : ℕ} → Start sec off n → T (leb 3 n) → (i : ℕ) → i < 5 → getD sec (off - 2) 0 ≡ getD oldOps i 0 → T (ripRelative (getD sec (off - 1) 0))
+      → Means n (getD newTypes i 0) off (toAbsolute n (getD newOps i 0) (getD digits i 0) sec off)
+  absolute-at {n} b t i g op rip =
+      let h = bounds b in
+      let three = leb→le 3 n t in
+      at-change sec new off base s whole (absolute n i) _ _ (absolute-goes sec off rip b t i g) (off - n) off (off - 3)
+      (rw op at (opened b)) (omega arith) (omega arith) (omega arith) (omega arith)
 
-    pub abs4 : 4 ≤ off → getD sec (off - 4) 0 ≡ 0xD5 → Filled t (addendFor t) off base (slotValue sec off base (s .mem)) (toAbsolute 4 (getD newOps i 0) (getD digits i 0) sec off) new
-        → Alike (step sec (off - 4) base s) (step new (off - 4) base s)
-    abs4 low first c =
-        same-at sec new (off - 4) base off off s
-        (decoded first (index sec (omega arith)) (index sec (omega arith) ∙ op) (index sec (omega arith)))
-        (decoded
-        (pre-run (stores 4) (off - 3) off _ (off - 4) (c .holds) (omega arith) (omega arith) ∙ first)
-        (in-run (stores 4) (off - 3) off _ 0 (off - 4 + 1) (c .holds) (omega arith) (lit< tt) (omega arith) (omega arith))
-        (in-run (stores 4) (off - 3) off _ 1 (off - 4 + 2) (c .holds) (omega arith) (lit< tt) (omega arith) (omega arith))
-        (in-run (stores 4) (off - 3) off _ 2 (off - 4 + 3) (c .holds) (omega arith) (lit< tt) (omega arith) (omega arith)))
-        (rows t 4 4 (old4 i) (new4 i) (table4 i known) (getD sec (off - 3) 0) (getD sec (off - 1) 0) pre rip)
-        (omega arith) (omega arith) whole (omega arith) (toAbsolute 4 (getD newOps i 0) (getD digits i 0) sec off) (length-sets sec (off - 3) (stores 4)) c
+  pub mov-at : 2 ≤ off → getD sec (off - 2) 0 ≡ 0x8B → T (ripRelative (getD sec (off - 1) 0))
+      → Means 2 10 off (sets sec (off - 2) (0xC7 ∷ direct 0 (getD sec (off - 1) 0) ∷ []))
+  unfolding byDigit viaRip onRegister opcode decode
+  mov-at low op rip =
+      at-change sec new off base s whole mov 0x48 _ (rows mov (λ l k. refl) 0x48 (getD sec (off - 1) 0) tt rip) (off - 2) off (off - 2)
+      (rw op at (two low)) (omega arith) (omega arith) (omega arith) (omega arith)
 
-  -- mov to lea, the instruction beginning 2, 3 or 4 bytes before the field
-  abbrev toLea : List ℕ
-  toLea = sets sec (off - 2) (0x8D ∷ [])
-
-  -- the ModRM byte stays
-  kept : (x : ℕ) → 2 ≤ off → Holds toLea new off x → (j : ℕ) → j ≡ off - 1 → getD new j 0 ≡ getD sec (off - 1) 0
-  kept x low c j e =
-      c .before j (omega arith) ∙ there sec (off - 2) j 0x8D (omega arith) ∙ index sec e
-
-  pub lea-at-3 : 3 ≤ off → T (isRexW (getD sec (off - 3) 0)) → getD sec (off - 2) 0 ≡ 0x8B → T (ripRelative (getD sec (off - 1) 0))
-      → Filled 2 (negsuc 3) off base (slotValue sec off base (s .mem)) toLea new
-      → Alike (step sec (off - 3) base s) (step new (off - 3) base s)
-  lea-at-3 low pre op rip c =
-      same-at sec new (off - 3) base off off s
-      (decoded refl (index sec (omega arith) ∙ op) (index sec (omega arith)) refl)
-      (decoded
-      (pre-run (0x8D ∷ []) (off - 2) off _ (off - 3) (c .holds) (omega arith) (omega arith))
-      (in-run (0x8D ∷ []) (off - 2) off _ 0 (off - 3 + 1) (c .holds) (omega arith) (lit< tt) (omega arith) (omega arith))
-      (kept _ (omega arith) (c .holds) (off - 3 + 2) (omega arith))
-      refl)
-      (rows 2 3 3 (λ (r m : ℕ). decode r 0x8B m (getD sec (off - 3 + 3) 0)) (λ (r m : ℕ). decode r 0x8D m (getD new (off - 3 + 3) 0)) (lea3 _ _) (getD sec (off - 3) 0) (getD sec (off - 1) 0) pre rip)
-      (omega arith) (omega arith) whole (omega arith) toLea (length-sets sec (off - 2) (0x8D ∷ [])) c
-
-  pub lea-at-4 : 4 ≤ off → getD sec (off - 4) 0 ≡ 0xD5 → T (isRexW (getD sec (off - 3) 0)) → getD sec (off - 2) 0 ≡ 0x8B
-      → T (ripRelative (getD sec (off - 1) 0))
-      → Filled 2 (negsuc 3) off base (slotValue sec off base (s .mem)) toLea new
-      → Alike (step sec (off - 4) base s) (step new (off - 4) base s)
-  lea-at-4 low first pre op rip c =
-      same-at sec new (off - 4) base off off s
-      (decoded first (index sec (omega arith)) (index sec (omega arith) ∙ op) (index sec (omega arith)))
-      (decoded
-      (pre-run (0x8D ∷ []) (off - 2) off _ (off - 4) (c .holds) (omega arith) (omega arith) ∙ first)
-      (pre-run (0x8D ∷ []) (off - 2) off _ (off - 4 + 1) (c .holds) (omega arith) (omega arith) ∙ index sec (omega arith))
-      (in-run (0x8D ∷ []) (off - 2) off _ 0 (off - 4 + 2) (c .holds) (omega arith) (lit< tt) (omega arith) (omega arith))
-      (kept _ (omega arith) (c .holds) (off - 4 + 3) (omega arith)))
-      (rows 2 4 4 (λ (r m : ℕ). decode 0xD5 r 0x8B m) (λ (r m : ℕ). decode 0xD5 r 0x8D m) lea4 (getD sec (off - 3) 0) (getD sec (off - 1) 0) pre rip)
-      (omega arith) (omega arith) whole (omega arith) toLea (length-sets sec (off - 2) (0x8D ∷ [])) c
-
-  pub lea-at-2 : 2 ≤ off → getD sec (off - 2) 0 ≡ 0x8B → T (ripRelative (getD sec (off - 1) 0))
-      → Filled 2 (negsuc 3) off base (slotValue sec off base (s .mem)) toLea new
-      → Alike (step sec (off - 2) base s) (step new (off - 2) base s)
-  lea-at-2 low op rip c =
-      same-at sec new (off - 2) base off off s
-      (decoded op (index sec (omega arith)) refl refl)
-      (decoded
-      (in-run (0x8D ∷ []) (off - 2) off _ 0 (off - 2) (c .holds) (omega arith) (lit< tt) (omega arith) (omega arith))
-      (kept _ (omega arith) (c .holds) (off - 2 + 1) (omega arith))
-      refl refl)
-      (row 2 2 2 (λ (m : ℕ). decode 0x8B m (getD sec (off - 2 + 2) 0) (getD sec (off - 2 + 3) 0)) (λ (m : ℕ). decode 0x8D m (getD new (off - 2 + 2) 0) (getD new (off - 2 + 3) 0)) (lea2 _ _ _ _) (getD sec (off - 1) 0) rip)
-      (omega arith) (omega arith) whole (omega arith) toLea (length-sets sec (off - 2) (0x8D ∷ [])) c
-
-  -- mov without a prefix, to an absolute field
-  pub abs2 : 2 ≤ off → getD sec (off - 2) 0 ≡ 0x8B → T (ripRelative (getD sec (off - 1) 0))
-      → Filled 10 (pos 0) off base (slotValue sec off base (s .mem)) (rewritten MovIndirectToAbsolute sec off) new
-      → Alike (step sec (off - 2) base s) (step new (off - 2) base s)
-  abs2 low op rip c =
-      let m : ℕ = getD sec (off - 1) 0 in
-      let vs : List ℕ = 0xC7 ∷ direct 0 m ∷ [] in
-      same-at sec new (off - 2) base off off s
-      (decoded op (index sec (omega arith)) refl refl)
-      (decoded
-      (in-run vs (off - 2) off _ 0 (off - 2) (c .holds) (omega arith) (lit< tt) (omega arith) (omega arith))
-      (in-run vs (off - 2) off _ 1 (off - 2 + 1) (c .holds) (omega arith) (lit< tt) (omega arith) (omega arith))
-      refl refl)
-      (row 10 2 2 (λ (m : ℕ). decode 0x8B m (getD sec (off - 2 + 2) 0) (getD sec (off - 2 + 3) 0)) (λ (m : ℕ). decode 0xC7 (direct 0 m) (getD new (off - 2 + 2) 0) (getD new (off - 2 + 3) 0)) (mov2 _ _ _ _) m rip)
-      (omega arith) (omega arith) whole (omega arith) (rewritten MovIndirectToAbsolute sec off) (length-sets sec (off - 2) vs) c
-
-  pub call-at : 2 ≤ off → getD sec (off - 2) 0 ≡ 0xFF → getD sec (off - 1) 0 ≡ 0x15
-      → Filled 2 (negsuc 3) off base (slotValue sec off base (s .mem)) (rewritten CallIndirectToRelative sec off) new
-      → Alike (step sec (off - 2) base s) (step new (off - 2) base s)
-  call-at low op rip c =
-      let vs : List ℕ = 0x67 ∷ 0xE8 ∷ [] in
-      same-at sec new (off - 2) base off off s
-      (decoded op (index sec (omega arith) ∙ rip) refl refl)
-      (decoded
-      (in-run vs (off - 2) off _ 0 (off - 2) (c .holds) (omega arith) (lit< tt) (omega arith) (omega arith))
-      (in-run vs (off - 2) off _ 1 (off - 2 + 1) (c .holds) (omega arith) (lit< tt) (omega arith) (omega arith))
-      refl refl)
-      (call2 _ _ _ _)
-      (omega arith) (omega arith) whole (omega arith) (rewritten CallIndirectToRelative sec off) (length-sets sec (off - 2) vs) c
+  pub call-at : 2 ≤ off → getD sec (off - 2) 0 ≡ 0xFF → getD sec (off - 1) 0 ≡ 0x15 → Means 2 2 off (sets sec (off - 2) (0x67 ∷ 0xE8 ∷ []))
+  unfolding byDigit viaRip onRegister opcode decode
+  call-at low op m =
+      at-change sec new off base s whole call 0x48 0x05 (rows call (λ l k. refl) 0x48 0x05 tt tt) (off - 2) off (off - 2)
+      (rw (op, m) at (two low)) (omega arith) (omega arith) (omega arith) (omega arith)
 
   pub jmp-at : 2 ≤ off → getD sec (off - 2) 0 ≡ 0xFF → getD sec (off - 1) 0 ≡ 0x25
-      → Filled 2 (negsuc 3) (off - 1) base (slotValue sec off base (s .mem)) (rewritten JmpIndirectToRelative sec off) new
-      → Alike (step sec (off - 2) base s) (step new (off - 2) base s)
-  jmp-at low op rip c =
-      let vs : List ℕ = 0xE9 ∷ 0 ∷ 0 ∷ 0 ∷ 0 ∷ 0x90 ∷ [] in
-      same-at sec new (off - 2) base off (off - 1) s
-      (decoded op (index sec (omega arith) ∙ rip) refl refl)
-      (decoded
-      (in-run vs (off - 2) (off - 1) _ 0 (off - 2) (c .holds) (omega arith) (lit< tt) (omega arith) (omega arith))
-      refl refl refl)
-      (jmp2 _ _ _ _ _)
-      (omega arith) (omega arith) whole (omega arith) (rewritten JmpIndirectToRelative sec off) (length-sets sec (off - 2) vs) c
+      → Means 2 2 (off - 1) (sets sec (off - 2) (0xE9 ∷ 0 ∷ 0 ∷ 0 ∷ 0 ∷ 0x90 ∷ []))
+  unfolding byDigit viaRip onRegister opcode decode
+  jmp-at low op m =
+      at-change sec new off base s whole jmp 0x48 0x05 (rows jmp (λ l k. refl) 0x48 0x05 tt tt) (off - 2) (off - 1) (off - 2)
+      (rw (op, m) at (two low)) (omega arith) (omega arith) (omega arith) (omega arith)

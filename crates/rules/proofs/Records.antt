@@ -4,23 +4,22 @@ use Rattle.rules.specs.Range.{byteRange, signed64}
 use Rattle.rules.specs.Types.{earlierTypes, laterTypes, lookup}
 use Rattle.rules.specs.Plt.{template, displacement, inReach, pltAnswer, pltBytes}
 use Rattle.rules.specs.Choose.{given, pick, inRange, rexAbsolute, movLoad, branchTo, tpoffLoad, ldCall, isRex2W, descChoice, rexGotpcrelx, gotpcrelx, gotpcrel, gottpoff, code6Gottpoff, tlsgd, tlsld, tlsdesc, choose, choosing, needsGotFallback}
-use Rattle.rules.specs.Rewrite.{rexMoved, rex2Moved, rexCopied, evexMoved, relaxChosen, relaxing}
-use Rattle.rules.specs.Records.{Worked}
+use Rattle.rules.specs.Rewrite.{rexMoved, rex2Moved, rexCopied, evexMoved, claims, relaxChosen, relaxing}
+use Rattle.rules.specs.Records.{TypesWorked, FallbackWorked, PltWorked}
 use Rattle.rules.specs.Starred.{StarredHold}
 
-pub worked : Worked
-unfolding byteRange signed64 earlierTypes laterTypes lookup needsGotFallback template displacement inReach pltAnswer pltBytes
-worked =
-    record {
-      known = refl;
-      signed32 = refl;
-      unsigned32 = refl;
-      lookups = refl;
-      fallback = refl;
-      plt-blank = refl;
-      plt-short = refl;
-    }
+pub types-worked : TypesWorked
+unfolding byteRange earlierTypes laterTypes lookup
+types-worked = record { known = refl; listed = refl; signed32 = refl; unsigned32 = refl; lookups = refl }
+
+pub fallback-worked : FallbackWorked
+unfolding earlierTypes laterTypes lookup needsGotFallback
+fallback-worked = record { fallback = refl }
+
+pub plt-worked : PltWorked
+unfolding byteRange signed64 template displacement inReach pltAnswer pltBytes
+plt-worked = record { order = refl; blank = refl; short = refl }
 
 pub starred-hold : StarredHold
-unfolding byteRange signed64 earlierTypes laterTypes lookup given pick inRange rexAbsolute movLoad branchTo tpoffLoad ldCall isRex2W descChoice rexGotpcrelx gotpcrelx gotpcrel gottpoff code6Gottpoff tlsgd tlsld tlsdesc choose choosing rexMoved rex2Moved rexCopied evexMoved relaxChosen relaxing template displacement inReach pltAnswer pltBytes
+unfolding byteRange signed64 earlierTypes laterTypes lookup given pick inRange rexAbsolute movLoad branchTo tpoffLoad ldCall isRex2W descChoice rexGotpcrelx gotpcrelx gotpcrel gottpoff code6Gottpoff tlsgd tlsld tlsdesc choose choosing rexMoved rex2Moved rexCopied evexMoved claims relaxChosen relaxing template displacement inReach pltAnswer pltBytes
 starred-hold = record { hold = refl }

@@ -1,227 +1,160 @@
--- The theorem. The choice is walked forward, by the tests that the rules make (`by-given`, `by-pick`), to each kind that they can choose;
--- there the kind's law closes it. Relaxing, and choosing and then rewriting, give that section.
+-- The theorem. The choice is walked forward (Walked); where a kind is chosen, the kind's law closes it. Relaxing, and choosing and then
+-- rewriting, give that section.
 -- Assumes nothing.
-use mathlib.Core.Path.{_≡_, refl, sym, subst, ap}
-use mathlib.Core.Logic.{inl, inr}
+use mathlib.Core.Path.{_≡_, refl, subst, _∙_}
 use mathlib.Core.Bool.{Bool, true, false, not, _&&_, _||_, cond}
 use mathlib.Core.List.{List, [], _∷_}
-use Prim.Native.Nat.{ℕ, _+_, _-_, _≤_}
+use Prim.Native.Nat.{ℕ, _+_, _-_, _≤_, _<_}
 use native.Mathlib.Omega.{arith}
-use lib.Dec.{T, leb, ltb, eqb, eqb→eq}
+use lib.Dec.{T, leb, ltb, eqb, eqb→eq, leb→le, lit<}
 use lib.ListN.{length, getD}
 use lib.IntN.{ℤ, pos, negsuc}
+use Rattle.x86_64_kind.specs.declared.RelaxationKind.{RelaxationKind}
+use Rattle.x86_64_kind.specs.declared.RelaxationKind.the-variants.{MovIndirectToLea}
+use Rattle.x86_64_kind.specs.Kinds.{shapeOf, inside, allowed}
+use Rattle.rules.specs.declared.Relocation.{Relocation}
 use Rattle.rules.specs.Answer.{Answer, gives, refuses}
-use Rattle.rules.specs.Record.{ifunc, isN, isK, isF}
-use Rattle.rules.specs.Kinds.{RelaxationKind, MovIndirectToLea, allowed, fits}
-use Rattle.rules.specs.Choose.{Choice, none, chosen, given, pick, isRexW, isMinus4, rexAbsolute, movLoad, branchTo, tpoffLoad, rexGotpcrelx, gotpcrelx, gotpcrel, gottpoff, choose, choosing}
-use Rattle.rules.specs.Rewrite.{toAbsolute, Rewritten, Relaxed, unrelaxed, relaxed, rewrite, rewriting, relaxChosen, relaxing}
-use Rattle.rules.specs.Machine.{ripRelative}
-use Rattle.rules.specs.Meaning.{covered, Instruction, EndsAlike, SameMeaning}
-use Rattle.rules.proofs.Arith.{and-left, and-right}
-use Rattle.rules.proofs.Forms.{In, addendFor, either, is}
-use Rattle.rules.proofs.Places.{ops, oldOps, newOps, digits, newTypes, abs2, abs3, abs4, lea-at-2, lea-at-3, lea-at-4, call-at, jmp-at}
+use Rattle.rules.specs.Record.{Limit, tooLong, past, flagsAbove, kindAbove}
+use Rattle.rules.specs.Choose.{Choice, none, chosen, isRexW, choose, choosing}
+use Rattle.rules.specs.Rewrite.{toAbsolute, Rewritten, Filled, relaxed, rewritten, rewrite, rewriting, claims, relaxChosen, relaxing}
+use Rattle.rules.specs.Meaning.{covered, head, begins, start, Instruction, slotValue, Alike, EndsAlike, SameMeaning}
+use Rattle.rules.specs.Machine.{State, step}
+use Rattle.laws.proofs.Bools.{either}
+use Rattle.laws.proofs.Keys.{is}
+use Rattle.rules.proofs.Forms.{addendFor}
+use Rattle.rules.proofs.Places.{oldOps, newOps, digits, newTypes, Start, plain, rex, rex2, lea-at, absolute-at, mov-at, call-at, jmp-at}
+use Rattle.rules.proofs.Walked.{Prefixed, Bare, Cases, walk}
 
--- what a choice means, as a record, so that the choice can be read off its type
-abbrev Means : ℕ → List ℕ → ℕ → ℤ → Choice → Type 0
-Means type sec off a none = Unit {0}
-Means type sec off a (chosen k t m) = EndsAlike type sec off t (rewrite k sec off a)
+-- what a choice means for a record
+abbrev Means : List ℕ → Relocation → Choice → Type 0
+Means sec r none = Unit {0}
+Means sec r (chosen k t m) = EndsAlike sec r t (rewrite k sec (r .offset) (r .addend))
 
-record Sound (type : ℕ) (sec : List ℕ) (off : ℕ) (a : ℤ) (c : Choice) : Type 0 where
-  means : Means type sec off a c
+-- an instruction that starts 4 before its field begins with D5
+begins-d5 : (type b : ℕ) → head type ≡ 4 → T (begins type b) → T (eqb b 0xD5)
+begins-d5 type b = go (eqb type 41) (eqb type 43 || eqb type 44) where
+  go : (x y : Bool) → _≡_ {A = ℕ} (cond x 2 (cond y 4 3)) 4 → T (cond x (eqb b 0x8B || eqb b 0xFF) (cond y (eqb b 0xD5) (isRexW b))) → T (eqb b 0xD5)
+  go true y e t = absurd (omega arith)
+  go false true e t = t
+  go false false e t = absurd (omega arith)
 
-nothing : {type : ℕ} {sec : List ℕ} {off : ℕ} {a : ℤ} → Sound type sec off a none
-nothing = record { means = tt }
+not-six : (n : ℕ) → T (eqb n 3 || eqb n 4) → eqb n 6 ≡ false
+not-six n = either (eqb n 3) (eqb n 4) (is (λ (n : ℕ). eqb n 6 ≡ false) n 3 refl) (is (λ (n : ℕ). eqb n 6 ≡ false) n 4 refl)
 
--- the rules that keep the addend ask that it is −4
-at-4 : {type : ℕ} {sec : List ℕ} {off : ℕ} {x : Choice} (a : ℤ) → T (isMinus4 a) → Sound type sec off (negsuc 3) x → Sound type sec off a x
-at-4 (pos n) t m = absurd t
-at-4 {type} {sec} {off} {x} (negsuc n) t m = subst (λ (k : ℕ). Sound type sec off (negsuc k) x) (sym (eqb→eq n 3 t)) m
+three : (n : ℕ) → T (eqb n 3 || eqb n 4) → T (leb 3 n)
+three n = either (eqb n 3) (eqb n 4) (is (λ (n : ℕ). T (leb 3 n)) n 3 tt) (is (λ (n : ℕ). T (leb 3 n)) n 4 tt)
 
-module _ {type : ℕ} {sec : List ℕ} {off : ℕ} {a : ℤ} where
-  by-given : (c : Bool) {x : Choice} → (T c → Sound type sec off a x) → Sound type sec off a (given c x)
-  unfolding given
-  by-given true f = f tt
-  by-given false f = record { means = tt }
+back : (b off : ℕ) → b ≤ off → off - b + b ≡ off
+back b off h = omega arith
 
-  by-pick : (c : Bool) {x y : Choice} → (T c → Sound type sec off a x) → Sound type sec off a y → Sound type sec off a (pick c x y)
-  unfolding pick
-  by-pick true f m = f tt
-  by-pick false f m = m
+module _ (sec : List ℕ) (r : Relocation) (i : Instruction sec r) where
+  abbrev off : ℕ
+  off = r .offset
 
--- the operations to an absolute field, by their places in the table
-mov-11 : In 0 ops
-mov-11 = inl refl
+  -- after a prefix the instruction starts 3 bytes before the field, or 4 with D5
+  starts : (n : ℕ) → Prefixed sec r n → Start sec off n
+  starts n p =
+      either (eqb n 3) (eqb n 4)
+      (λ t. let e = p .starts ∙ eqb→eq n 3 t in is (Start sec off) n 3 (rex (rw e at (i .low)) (p .rex)) t)
+      (λ t. let e = p .starts ∙ eqb→eq n 4 t in is (Start sec off) n 4 (rex2 (rw e at (i .low)) (begins-d5 (r .«r_type») (getD sec (off - 4) 0) e (rw e at (i .first))) (p .rex)) t) (p .offset)
 
-sub-11 : In 1 ops
-sub-11 = inr (inl refl)
+  low : {n : ℕ} → Start sec off n → (2 ≤ n) × (n ≤ off)
+  low (plain h) = (lit< tt, h)
+  low (rex h v) = (lit< tt, h)
+  low (rex2 h d v) = (lit< tt, h)
 
-cmp-11 : In 2 ops
-cmp-11 = inr (inr (inl refl))
-
-mov-23 : In 3 ops
-mov-23 = inr (inr (inr (inl refl)))
-
-add-23 : In 4 ops
-add-23 = inr (inr (inr (inr (inl refl))))
-
-module _ (sec : List ℕ) (off flags kind address : ℕ) (a : ℤ) where
-  -- the prefix test that the choice makes
-  pre : T (leb 3 off && isRexW (getD sec (off - 3) 0)) → T (isRexW (getD sec (off - 3) 0))
-  pre g = and-right (leb 3 off) (isRexW (getD sec (off - 3) 0)) g
-
-  -- what the places give for a prefix of n bytes with the opcode: the ith operation to an absolute field, and mov to lea
-  abbrev Absolute : ℕ → ℕ → Type 0
-  Absolute type n =
-      (i : ℕ) → In i ops → getD sec (off - 2) 0 ≡ getD oldOps i 0 → T (isRexW (getD sec (off - 3) 0))
-      → EndsAlike type sec off (getD newTypes i 0) (record {
-        bytes = toAbsolute n (getD newOps i 0) (getD digits i 0) sec off;
-        offset = off;
-        addend = addendFor (getD newTypes i 0);
+  -- the jth operation to an absolute field
+  absolute : (n j : ℕ) → j < 5 → Prefixed sec r n → getD sec (off - 2) 0 ≡ getD oldOps j 0
+      → EndsAlike sec r (getD newTypes j 0) (record {
+        bytes = toAbsolute n (getD newOps j 0) (getD digits j 0) sec off;
+        offset = off - 3 + 3;
+        addend = addendFor (getD newTypes j 0);
       })
+  absolute n j k p o base s new c =
+      let l : off - 3 + 3 ≡ off = (let h = low (starts n p) in let k = leb→le 3 n (three n (p .offset)) in back 3 off (omega arith)) in
+      rw (p .starts) (absolute-at sec new off base s (i .whole) (starts n p) (three n (p .offset)) j k o (i .rip) (rw l at c))
 
-  abbrev Lea : ℕ → Type 0
-  Lea type =
-      T (isRexW (getD sec (off - 3) 0)) → getD sec (off - 2) 0 ≡ 0x8B → EndsAlike type sec off 2 (rewrite MovIndirectToLea sec off (negsuc 3))
+  lea : (n : ℕ) → Start sec off n → head (r .«r_type») ≡ n → r .addend ≡ negsuc 3 → getD sec (off - 2) 0 ≡ 0x8B → EndsAlike sec r 2 (rewrite MovIndirectToLea sec off (r .addend))
+  lea n b e a o base s new c =
+      let l : off - 2 + 2 ≡ off = (let h = low b in back 2 off (omega arith)) in
+      rw e (lea-at sec new off base s (i .whole) b o (i .rip) (rw (l, a) at c))
 
-  -- 42 and 43
-  rex : (type n : ℕ) → Absolute type n → Lea type → Sound type sec off a (rexGotpcrelx sec off flags kind address a n)
-  unfolding rexGotpcrelx rexAbsolute
-  rex type n absolute lea =
-      by-given _ λ g. by-given _ λ f. at-4 a (and-left (isMinus4 a) (isN flags) f) (by-pick _
-      (λ _. by-given _ λ _.
-      by-pick _ (λ o. record { means = absolute 0 mov-11 (eqb→eq _ _ o) (pre g) })
-      (by-pick _ (λ o. record { means = absolute 1 sub-11 (eqb→eq _ _ o) (pre g) })
-      (by-given _ λ o. record { means = absolute 2 cmp-11 (eqb→eq _ _ o) (pre g) })))
-      (by-given _ λ o. record { means = lea (pre g) (eqb→eq _ _ o) }))
+  -- type 41: the law of a kind at an instruction that starts 2 before its field
+  abbrev At2 : ℕ → Rewritten → Type 0
+  At2 t x =
+      2 ≤ off → (base : ℕ) (s : State) (new : List ℕ)
+      → Filled t (x .addend) (x .offset) base (slotValue sec off base (s .mem)) (x .bytes) new
+      → Alike (step sec (off - 2) base s) (step new (off - 2) base s)
 
-  -- 22 and 44, for which the instruction offset is not 6
-  thread : (type n : ℕ) → eqb n 6 ≡ false → Absolute type n → Sound type sec off a (gottpoff sec off flags kind address a n)
-  unfolding gottpoff tpoffLoad
-  thread type n e absolute =
-      by-given _ λ _. by-given _ λ g.
-      by-pick _ (λ o. record { means = absolute 3 mov-23 (eqb→eq _ _ o) (pre g) })
-      (by-given _ λ o. record { means = rw e (absolute 4 add-23 (eqb→eq _ _ o) (pre g)) })
+  bare : (b : Bare sec r) (t : ℕ) (x : Rewritten) → At2 t x → EndsAlike sec r t x
+  bare b t x f base s new c = rw (b .type) (f (rw (b .type) at (i .low)) base s new c)
 
-  module _ (whole : off + 4 ≤ length sec) (rip : T (ripRelative (getD sec (off - 1) 0))) where
-    with-rex : 3 ≤ off → Absolute 42 3
-    with-rex low i k o g base s new c = abs3 sec new off base s whole i k o g rip low c
-
-    lea-rex : 3 ≤ off → Lea 42
-    lea-rex low g o base s new c = lea-at-3 sec new off base s whole low g o rip c
-
-    with-rex2 : 4 ≤ off → T (eqb (getD sec (off - 4) 0) 0xD5) → Absolute 43 4
-    with-rex2 low d i k o g base s new c = abs4 sec new off base s whole i k o g rip low (eqb→eq _ _ d) c
-
-    lea-rex2 : 4 ≤ off → T (eqb (getD sec (off - 4) 0) 0xD5) → Lea 43
-    lea-rex2 low d g o base s new c = lea-at-4 sec new off base s whole low (eqb→eq _ _ d) g o rip c
-
-  nine : Instruction 9 sec off → Sound 9 sec off a (gotpcrel sec off flags kind address a)
-  unfolding gotpcrel
-  nine i =
-      by-given _ λ f. at-4 a (and-right (isN flags && (isK flags || isF kind)) (isMinus4 a) f) (by-given _ λ g.
-      by-given _ λ o. record { means = lea-rex (i .whole) (i .rip) (i .low) (pre g) (eqb→eq _ _ o) })
-
-  plain : Instruction 41 sec off → Sound 41 sec off a (gotpcrelx sec off flags kind address a)
-  unfolding gotpcrelx movLoad branchTo
-  plain i =
-      by-given _ λ f. at-4 a (and-left (isMinus4 a) (leb 2 off) (and-left (isMinus4 a && leb 2 off) (isN flags) f)) (by-pick _
-      (λ o. by-pick _
-      (λ _. by-given _ λ _. record { means = λ base s new c. abs2 sec new off base s (i .whole) (i .low) (eqb→eq _ _ o) (i .rip) c })
-      (record { means = λ base s new c. lea-at-2 sec new off base s (i .whole) (i .low) (eqb→eq _ _ o) (i .rip) c }))
-      (by-given _ λ o. by-pick _
-      (λ m. record { means = λ base s new c. call-at sec new off base s (i .whole) (i .low) (eqb→eq _ _ o) (eqb→eq _ _ m) c })
-      (by-given _ λ m. record { means = λ base s new c. jmp-at sec new off base s (i .whole) (i .low) (eqb→eq _ _ o) (eqb→eq _ _ m) c })))
-
--- ---- by the type
-
-by-type : (P : ℕ → Type 0) → P 9 → P 22 → P 41 → P 42 → P 43 → P 44 → (n : ℕ) → T (covered n) → P n
-by-type P a b c d e f n =
-    either (eqb n 9 || eqb n 22 || eqb n 41 || eqb n 42 || eqb n 43) (eqb n 44)
-    (either (eqb n 9 || eqb n 22 || eqb n 41 || eqb n 42) (eqb n 43)
-    (either (eqb n 9 || eqb n 22 || eqb n 41) (eqb n 42)
-    (either (eqb n 9 || eqb n 22) (eqb n 41)
-    (either (eqb n 9) (eqb n 22) (is P n 9 a) (is P n 22 b))
-    (is P n 41 c)) (is P n 42 d)) (is P n 43 e)) (is P n 44 f)
-
-module _ (sec : List ℕ) (off flags kind address : ℕ) (a : ℤ) (executable : Bool) where
-  abbrev Claim : ℕ → Type 0
-  Claim type = Instruction type sec off → Sound type sec off a (choose sec off flags kind address a type executable)
-
-  guarded : {type : ℕ} {c : Choice} → Sound type sec off a c → Sound type sec off a (pick (ifunc flags) none (given executable c))
-  guarded x = by-pick (ifunc flags) (λ _. nothing) (by-given executable λ _. x)
-
-  sound : (type : ℕ) → T (covered type) → Claim type
-  unfolding choose pick given
-  sound =
-      by-type Claim
-      (λ i. guarded (nine sec off flags kind address a i))
-      (λ i. guarded (thread sec off flags kind address a 22 3 refl (with-rex sec off flags kind address a (i .whole) (i .rip) (i .low))))
-      (λ i. guarded (plain sec off flags kind address a i))
-      (λ i. guarded (rex sec off flags kind address a 42 3 (with-rex sec off flags kind address a (i .whole) (i .rip) (i .low)) (lea-rex sec off flags kind address a (i .whole) (i .rip) (i .low))))
-      (λ i. guarded (rex sec off flags kind address a 43 4 (with-rex2 sec off flags kind address a (i .whole) (i .rip) (i .low) (i .first)) (lea-rex2 sec off flags kind address a (i .whole) (i .rip) (i .low) (i .first))))
-      (λ i. guarded (thread sec off flags kind address a 44 4 refl (with-rex2 sec off flags kind address a (i .whole) (i .rip) (i .low) (i .first))))
+  cases : Cases sec r (Means sec r)
+  cases =
+      record {
+        nothing = tt;
+        mov = λ n m p o. absolute n 0 (lit< tt) p o;
+        sub = λ n m p o. absolute n 1 (lit< tt) p o;
+        cmp = λ n m p o. absolute n 2 (lit< tt) p o;
+        lea = λ n m p a o. lea n (starts n p) (p .starts) a o;
+        thread-mov = λ n m p o. absolute n 3 (lit< tt) p o;
+        thread-add = λ n m p o. rw (not-six n (p .offset)) (absolute n 4 (lit< tt) p o);
+        bare-mov = λ m b o. bare b _ _ λ low base s new c. let l : off - 2 + 2 ≡ off = omega arith in mov-at sec new off base s (i .whole) low o (i .rip) (rw l at c);
+        bare-lea = λ m b o. let e : head (r .«r_type») ≡ 2 = rw (b .type) in lea 2 (plain (rw e at (i .low))) e (b .addend) o;
+        call = λ m b o q. bare b _ _ λ low base s new c. let l : off - 2 + 2 ≡ off = omega arith in call-at sec new off base s (i .whole) low o q (rw (l, b .addend) at c);
+        jmp = λ m b o q. bare b _ _ λ low base s new c. let l : off - 2 + 1 ≡ off - 1 = omega arith in jmp-at sec new off base s (i .whole) low o q (rw (l, b .addend) at c);
+        other = λ k t m e a. absurd (rw e at (i .type));
+      }
 
 -- ---- from relaxing, and from choosing and rewriting, to the choice and the rewritten section
 
 never : {A : Type 0} → _≡_ {A = ℕ} 0 1 → A
 never z = absurd (omega arith)
 
--- what stands behind a row of refusals, each with its test
-behind : {A : Type 0} (c : Bool) (n : ℕ) (x : Answer A) (a : A) → cond c (refuses n) x ≡ gives a → x ≡ gives a
+-- what stands behind a test that refuses, and what is given where a test holds
+pub behind : {A : Type 0} (c : Bool) (n : ℕ) (x : Answer A) (a : A) → cond c (refuses n) x ≡ gives a → x ≡ gives a
 behind true n x a e = never (cc)
 behind false n x a e = e
 
-module _ (sec : List ℕ) (off : ℕ) (a : ℤ) (k : RelaxationKind) (t : ℕ) (m : Bool) (r : Rewritten) where
-  record Parts (x : Answer Choice) : Type 0 where
-    choice : x ≡ gives (chosen k t m)
-    result : rewrite k sec off a ≡ r
+where-true : {A : Type 0} (c : Bool) (n : ℕ) (x : Answer A) (a : A) → cond c x (refuses n) ≡ gives a → x ≡ gives a
+where-true true n x a e = e
+where-true false n x a e = never (cc)
 
-  fitting : (c : Bool) (k′ : RelaxationKind) (t′ : ℕ) (m′ : Bool) → cond c (gives (relaxed k′ t′ m′ (rewrite k′ sec off a))) (refuses 6) ≡ gives (relaxed k t m r) → Parts (gives (chosen k′ t′ m′))
-  fitting true k′ t′ m′ e =
-      let p : k′ ≡ k = cc in
-      let q : rewrite k′ sec off a ≡ r = cc in
-      record { choice = cc; result = subst (λ (j : RelaxationKind). rewrite j sec off a ≡ r) p q }
-  fitting false k′ t′ m′ e = never (cc)
+pub chose : (l : Limit) (sec : List ℕ) (r : Relocation) (c : Choice) → choosing l sec r ≡ gives c → choose sec r ≡ c
+unfolding choosing
+chose l sec r c e =
+    let p : gives (choose sec r) ≡ gives c = behind (kindAbove (r .«output_kind»)) 4 _ c (behind (flagsAbove (r .flags)) 3 _ c (behind (past sec (r .offset)) 2 _ c (behind (tooLong l sec) (l .refusal) _ c e))) in
+    cc
 
-  taken : (x : Answer Choice) → relaxChosen sec off a x ≡ gives (relaxed k t m r) → Parts x
+module _ (sec : List ℕ) (r : Relocation) (k : RelaxationKind) (t : ℕ) (m : Bool) (x : Rewritten) where
+  record Parts (a : Answer Choice) : Type 0 where
+    choice : a ≡ gives (chosen k t m)
+    result : rewrite k sec (r .offset) (r .addend) ≡ x
+
+  taken : (a : Answer Choice) → relaxChosen sec r a ≡ gives (relaxed k t m x) → Parts a
   unfolding relaxChosen
   taken (refuses n) e = never (cc)
   taken (gives none) e = never (cc)
-  taken (gives (chosen k′ t′ m′)) e = fitting (fits k′ (length sec) off) k′ t′ m′ e
+  taken (gives (chosen k′ t′ m′)) e =
+      let f = where-true (inside (claims k′ t′) (length sec) (r .offset)) 6 _ _ e in
+      let p : k′ ≡ k = cc in
+      let q : rewrite k′ sec (r .offset) (r .addend) ≡ x = cc in
+      record { choice = cc; result = subst (λ (j : RelaxationKind). rewrite j sec (r .offset) (r .addend) ≡ x) p q }
 
-  ifFits : (c : Bool) → cond c (gives (rewrite k sec off a)) (refuses 6) ≡ gives r → rewrite k sec off a ≡ r
-  ifFits true e = cc
-  ifFits false e = never (cc)
-
-  ifAllowed : (c : Bool) → cond c (cond (fits k (length sec) off) (gives (rewrite k sec off a)) (refuses 6)) (refuses 5) ≡ gives r → rewrite k sec off a ≡ r
-  ifAllowed true e = ifFits (fits k (length sec) off) e
-  ifAllowed false e = never (cc)
-
-  done : rewriting k sec off a ≡ gives r → rewrite k sec off a ≡ r
+  done : (l : Limit) → rewriting l k sec (r .offset) (r .addend) ≡ gives x → rewrite k sec (r .offset) (r .addend) ≡ x
   unfolding rewriting
-  done e = ifAllowed (allowed k) (behind (ltb (length sec) off) 2 _ r (behind (ltb 268435456 (length sec)) 1 _ r e))
+  done l e =
+      let f = where-true (inside (shapeOf k .window) (length sec) (r .offset)) 6 _ _ (where-true (allowed k) 5 _ _ (behind (past sec (r .offset)) 2 _ _ (behind (tooLong l sec) (l .refusal) _ _ e))) in
+      cc
 
-chose : (sec : List ℕ) (off flags kind address : ℕ) (a : ℤ) (type : ℕ) (executable : Bool) (c : Choice) → choosing sec off flags kind address a type executable ≡ gives c → choose sec off flags kind address a type executable ≡ c
-unfolding choosing
-chose sec off flags kind address a type executable c e =
-    let p : gives (choose sec off flags kind address a type executable) ≡ gives c = behind (ltb 5 kind) 4 _ c (behind (ltb 15 flags) 3 _ c (behind (ltb (length sec) off) 2 _ c (behind (ltb 268435456 (length sec)) 1 _ c e))) in
-    cc
+  means : (l : Limit) → Instruction sec r → choosing l sec r ≡ gives (chosen k t m) → rewrite k sec (r .offset) (r .addend) ≡ x → EndsAlike sec r t x
+  means l i e q =
+      subst (EndsAlike sec r t) q (subst (Means sec r) (chose l sec r (chosen k t m) e) (walk sec r (Means sec r) (cases sec r i)))
 
-means : (type : ℕ) (sec : List ℕ) (off flags kind address : ℕ) (a : ℤ) (executable : Bool) → T (covered type) → Instruction type sec off
-    → (k : RelaxationKind) (t : ℕ) (m : Bool) (r : Rewritten) → choosing sec off flags kind address a type executable ≡ gives (chosen k t m)
-    → rewrite k sec off a ≡ r → EndsAlike type sec off t r
-means type sec off flags kind address a executable h i k t m r e q =
-    subst (EndsAlike type sec off t) q
-    (subst (Means type sec off a) (chose sec off flags kind address a type executable (chosen k t m) e)
-    (sound sec off flags kind address a executable type h i .means))
-
-pub same-meaning : SameMeaning
+pub same-meaning : (sec : List ℕ) → SameMeaning sec
 unfolding relaxing
-same-meaning =
+same-meaning sec =
     record {
-      relaxes = λ type sec off flags kind address a executable h i k t m r e.
-          let p = taken sec off a k t m r (choosing sec off flags kind address a type executable) e in
-          means type sec off flags kind address a executable h i k t m r (p .choice) (p .result);
-      rewrites = λ type sec off flags kind address a executable h i k t m r e q.
-          means type sec off flags kind address a executable h i k t m r e (done sec off a k t m r q);
+      relaxes = λ l r i k t m x e. let p = taken sec r k t m x (choosing l sec r) e in means sec r k t m x l i (p .choice) (p .result);
+      rewrites = λ l r i k t m x e q. means sec r k t m x l i e (done sec r k t m x l q);
     }

@@ -1,5 +1,5 @@
 -- Worked instances of the theorem, one for each of the eight kinds that the rules choose for these types, and for REX2: each meets all
--- premises. Plant two's `4C 8B 2D` is among them, and ends with r13 changed and rbp not. Assumes nothing.
+-- premises. `4C 8B 2D` is among them, and ends with r13 changed and rbp not. Assumes nothing.
 use mathlib.Core.Path.{_≡_}
 use mathlib.Core.Bool.{Bool, true, false, cond, _&&_}
 use mathlib.Core.List.{List, [], _∷_, map}
@@ -10,31 +10,30 @@ use lib.Seq.{sets}
 use lib.IntN.{negsuc}
 use Rattle.rules.specs.Answer.{Answer, gives, refuses}
 use Rattle.rules.specs.Range.{signed64}
-use Rattle.rules.specs.Kinds.{RelaxationKind, shapeOf}
+use Rattle.x86_64_kind.specs.declared.RelaxationKind.{RelaxationKind}
+use Rattle.x86_64_kind.specs.Kinds.{shapeOf}
+use Rattle.rules.specs.declared.Relocation.{Relocation}
+use Rattle.rules.specs.Record.{linkLimit, relocation}
 use Rattle.rules.specs.Choose.{Choice, none, chosen, inRange, choosing}
 use Rattle.rules.specs.Rewrite.{Rewritten, Relaxed, unrelaxed, relaxed, rewriting, relaxing, relocated, Filled}
 use Rattle.rules.specs.Machine.{State, Flags, Result, stop, stepped, word, signed32, fieldAt, ripRelative, step}
-use Rattle.rules.specs.Meaning.{covered, head, begins, Instruction, slotValue, Alike}
+use Rattle.rules.specs.Meaning.{covered, head, begins, start, Instruction, slotValue, Alike}
 
--- type, section, offset, flag number, output kind, symbol address, load address, and the slot's value
+-- a record of a section that is loaded at `base`, with the slot's value
 pub record Case : Type 0 where
-  pub type : ℕ
+  pub record′ : Relocation
   pub section : List ℕ
-  pub offset : ℕ
-  pub flags : ℕ
-  pub kind : ℕ
-  pub address : ℕ
   pub base : ℕ
   pub value : ℕ
 
+-- type, section, offset, flag number, output kind, load address, the slot's value; executable, addend −4, the symbol at the slot's value
 abbrev case : ℕ → List ℕ → ℕ → ℕ → ℕ → ℕ → ℕ → Case
-case t s o f k b v =
-    record { type = t; section = s; offset = o; flags = f; kind = k; address = v; base = b; value = v }
+case t s o f k b v = record { record′ = relocation t o f k true v (negsuc 3); section = s; base = b; value = v }
 
 -- the field holds 16, so that the slot lies 16 past the instruction; register k holds 16 * k, and memory the slot's value alone
 abbrev pub stateOf : Case → State
 stateOf c =
-    let at = (c .base + c .offset + 4 + signed32 (fieldAt (c .section) (c .offset))) % word in
+    let at = (c .base + c .record′ .offset + 4 + signed32 (fieldAt (c .section) (c .record′ .offset))) % word in
     record {
       regs = λ k. k * 16;
       flags = record { cf = true; pf = false; af = true; zf = false; sf = false; of = true };
@@ -42,11 +41,14 @@ stateOf c =
     }
 
 abbrev pub relaxingOf : Case → Answer Relaxed
-relaxingOf c = relaxing (c .section) (c .offset) (c .flags) (c .kind) (c .address) (negsuc 3) (c .type) true
+relaxingOf c = relaxing linkLimit (c .section) (c .record′)
+
+abbrev pub valueOf : Case → ℕ
+valueOf c = slotValue (c .section) (c .record′ .offset) (c .base) (stateOf c .mem)
 
 -- the number that the field is filled with, and the four stores that fill it
 abbrev pub filling : Case → ℕ → Rewritten → ℕ
-filling c t r = relocated t (slotValue (c .section) (c .offset) (c .base) (stateOf c .mem)) (r .addend) (c .base + r .offset)
+filling c t x = relocated t (valueOf c) (x .addend) (c .base + x .offset)
 
 abbrev pub fill : ℕ → ℕ → List ℕ → List ℕ
 fill x at sec = sets sec at (x / 256 ^ 0 % 256 ∷ x / 256 ^ 1 % 256 ∷ x / 256 ^ 2 % 256 ∷ x / 256 ^ 3 % 256 ∷ [])
@@ -59,25 +61,27 @@ fills c (gives (relaxed k t m r)) = inRange t (signed64 (filling c t r)) && leb 
 
 abbrev pub meets : Case → Bool
 meets c =
-    covered (c .type) && leb (head (c .type)) (c .offset) && leb (c .offset + 4) (length (c .section))
-    && begins (c .type) (getD (c .section) (c .offset - head (c .type)) 0) && ripRelative (getD (c .section) (c .offset - 1) 0)
+    let r = c .record′ in
+    let type = r .«r_type» in
+    covered type && leb (head type) (r .offset) && leb (r .offset + 4) (length (c .section))
+    && begins type (getD (c .section) (start r) 0) && ripRelative (getD (c .section) (r .offset - 1) 0)
     && fills c (relaxingOf c)
 
 -- what a case shows: it meets every premise of the theorem, and the two steps end alike
 pub record Instance (c : Case) : Type 0 where
-  pub instruction : Instruction (c .type) (c .section) (c .offset)
+  pub instruction : Instruction (c .section) (c .record′)
   pub kind : RelaxationKind
   pub newType : ℕ
   pub mandatory : Bool
   pub result : Rewritten
   pub relaxes : relaxingOf c ≡ gives (relaxed kind newType mandatory result)
   pub new : List ℕ
-  pub filled : Filled newType (result .addend) (result .offset) (c .base) (slotValue (c .section) (c .offset) (c .base) (stateOf c .mem)) (result .bytes) new
-  pub alike : Alike (step (c .section) (c .offset - head (c .type)) (c .base) (stateOf c)) (step new (c .offset - head (c .type)) (c .base) (stateOf c))
+  pub filled : Filled newType (result .addend) (result .offset) (c .base) (valueOf c) (result .bytes) new
+  pub alike : Alike (step (c .section) (start (c .record′)) (c .base) (stateOf c)) (step new (start (c .record′)) (c .base) (stateOf c))
 
--- plant two's instruction, with a fixed address
-abbrev pub plantTwo : Case
-plantTwo = case 42 (0x4C ∷ 0x8B ∷ 0x2D ∷ 16 ∷ 0 ∷ 0 ∷ 0 ∷ []) 3 1 0 0x401000 0x402000
+-- a load into r13, whose high bit moves
+abbrev pub movR13 : Case
+movR13 = case 42 (0x4C ∷ 0x8B ∷ 0x2D ∷ 16 ∷ 0 ∷ 0 ∷ 0 ∷ []) 3 1 0 0x401000 0x402000
 
 -- REX2 with R4 alone: r16
 abbrev pub addR16 : Case
@@ -87,7 +91,7 @@ abbrev pub cases : List Case
 cases =
     case 42 (0x48 ∷ 0x8B ∷ 0x2D ∷ 16 ∷ 0 ∷ 0 ∷ 0 ∷ []) 3 1 1 0x401000 0x402000
     ∷ case 41 (0x8B ∷ 0x2D ∷ 16 ∷ 0 ∷ 0 ∷ 0 ∷ []) 2 1 0 0x401000 0x402000
-    ∷ plantTwo
+    ∷ movR13
     ∷ case 22 (0x4C ∷ 0x03 ∷ 0x25 ∷ 16 ∷ 0 ∷ 0 ∷ 0 ∷ []) 3 1 2 0x401000 0xFFFFFFFFFFFFFFF8
     ∷ case 42 (0x4C ∷ 0x2B ∷ 0x2D ∷ 16 ∷ 0 ∷ 0 ∷ 0 ∷ []) 3 3 0 0x401000 0x402000
     ∷ case 42 (0x48 ∷ 0x3B ∷ 0x05 ∷ 16 ∷ 0 ∷ 0 ∷ 0 ∷ []) 3 3 0 0x401000 0x402000
@@ -112,15 +116,15 @@ relaxedAs (gives unrelaxed) = (gives none, refuses 0)
 relaxedAs (gives (relaxed k t m r)) = (gives (chosen k t m), gives r)
 
 abbrev pub chosenAs : Case → Answer Choice × Answer Rewritten
-chosenAs c = by (choosing (c .section) (c .offset) (c .flags) (c .kind) (c .address) (negsuc 3) (c .type) true) where
+chosenAs c = by (choosing linkLimit (c .section) (c .record′)) where
   by : Answer Choice → Answer Choice × Answer Rewritten
   by (refuses n) = (refuses n, refuses n)
   by (gives none) = (gives none, refuses 0)
-  by (gives (chosen k t m)) = (gives (chosen k t m), rewriting k (c .section) (c .offset) (negsuc 3))
+  by (gives (chosen k t m)) = (gives (chosen k t m), rewriting linkLimit k (c .section) (c .record′ .offset) (negsuc 3))
 
 -- a register after the relaxed and filled instruction
 abbrev pub registerAfter : Case → ℕ → ℕ
-registerAfter c k = at (step (new (relaxingOf c)) (c .offset - head (c .type)) (c .base) (stateOf c)) where
+registerAfter c k = at (step (new (relaxingOf c)) (start (c .record′)) (c .base) (stateOf c)) where
   new : Answer Relaxed → List ℕ
   new (refuses n) = []
   new (gives unrelaxed) = []
@@ -130,15 +134,15 @@ registerAfter c k = at (step (new (relaxingOf c)) (c .offset - head (c .type)) (
   at stop = 0
   at (stepped s a) = s .regs k
 
-pub record Worked : Type 0 where
+pub record MeaningWorked : Type 0 where
   pub all : map meets cases ≡ map (λ _. true) cases
   pub instances : (c : Case) → meets c ≡ true → Instance c
   -- MovIndirectToLea, MovIndirectToAbsolute, RexMov, RexAdd, RexSub, RexCmp, Call, Jmp; then type 9, and the REX2 forms
   pub kinds : map kindNumberOf cases ≡ 0 ∷ 1 ∷ 2 ∷ 3 ∷ 5 ∷ 6 ∷ 7 ∷ 8 ∷ 0 ∷ 2 ∷ 3 ∷ []
   -- the same cases meet the premises of choosing and then rewriting
   pub steps : map chosenAs cases ≡ map (λ (c : Case). relaxedAs (relaxingOf c)) cases
-  pub r13 : registerAfter plantTwo 13 ≡ 0x402000
-  pub rbp : registerAfter plantTwo 5 ≡ 5 * 16
+  pub r13 : registerAfter movR13 13 ≡ 0x402000
+  pub rbp : registerAfter movR13 5 ≡ 5 * 16
   -- r16 held 16 * 16, and r8 is as it was
   pub r16 : registerAfter addR16 16 ≡ 16 * 16 - 16
   pub r8 : registerAfter addR16 8 ≡ 8 * 16

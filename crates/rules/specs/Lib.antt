@@ -2,7 +2,6 @@ pub mod Answer
 pub mod Record
 pub mod Range
 pub mod Types
-pub mod Kinds
 pub mod Choose
 pub mod Rewrite
 pub mod Machine

@@ -1,10 +1,10 @@
 -- Document 01's machine ("Demand 3's machine is fed an instruction's bytes from the section, the address they are loaded at and that
 -- demand's state"). Sections are of Intel's SDM, volumes 1 and 2, and of the APX specification. Assumes nothing.
-use mathlib.Core.Bool.{Bool, true, false, not, _&&_, cond}
+use mathlib.Core.Bool.{Bool, true, false, not, _&&_, cond, Bool·beq}
 use mathlib.Core.List.{List}
-use Prim.Native.Nat.{ℕ, _+_, _-_, _*_, _/_, _%_, _^_}
+use Prim.Native.Nat.{ℕ, zero, suc, _+_, _-_, _*_, _/_, _%_, _^_}
 use lib.Dec.{leb, ltb, eqb}
-use lib.ListN.{length, getD}
+use lib.ListN.{length, getD, drop}
 use Rattle.rules.specs.Range.{bit}
 
 -- ---- the state: 32 registers, six status flags, memory of bytes at 64-bit addresses (SDM 1: 3.4.1, 3.4.3.1; APX: 32 registers)
@@ -38,8 +38,7 @@ isSet x k = eqb (bit x k) 1
 
 -- the operand size by W: 64 or 32 bits (SDM 1: 3.6.1)
 abbrev pub size : Bool → ℕ
-size true = 2 ^ 64
-size false = 2 ^ 32
+size w = cond w (2 ^ 64) (2 ^ 32)
 
 -- a 32-bit field read as signed, modulo 2^64: displacements and immediates (SDM 2: 2.2.1.3, 2.2.1.5, 2.2.1.6)
 unfoldable pub signed32 : ℕ → ℕ
@@ -50,15 +49,12 @@ unfoldable pub field4 : ℕ → ℕ → ℕ → ℕ → ℕ
 field4 b0 b1 b2 b3 = b0 % 256 + (b1 % 256) * 256 + (b2 % 256) * 65536 + (b3 % 256) * 16777216
 
 abbrev pub fieldAt : List ℕ → ℕ → ℕ
-fieldAt sec at = field4 (getD sec at 0) (getD sec (at + 1) 0) (getD sec (at + 2) 0) (getD sec (at + 3) 0)
+fieldAt code at = field4 (getD code at 0) (getD code (at + 1) 0) (getD code (at + 2) 0) (getD code (at + 3) 0)
 
 -- ---- memory and registers
 
-abbrev pub byteOf : (ℕ → ℕ) → ℕ → ℕ
-byteOf m a = m (a % word) % 256
-
 unfoldable pub read4 : (ℕ → ℕ) → ℕ → ℕ
-read4 m a = field4 (byteOf m a) (byteOf m (a + 1)) (byteOf m (a + 2)) (byteOf m (a + 3))
+read4 m a = field4 (m (a % word)) (m ((a + 1) % word)) (m ((a + 2) % word)) (m ((a + 3) % word))
 
 unfoldable pub read8 : (ℕ → ℕ) → ℕ → ℕ
 read8 m a = read4 m a + read4 m (a + 4) * 2 ^ 32
@@ -71,17 +67,26 @@ write8 m a v x =
 unfoldable pub put : (ℕ → ℕ) → ℕ → ℕ → ℕ → ℕ
 put r k v i = cond (eqb i k) v (r i)
 
-abbrev pub load : Bool → (ℕ → ℕ) → ℕ → ℕ
-load true = read8
-load false = read4
+-- the state with register k, the flags, or the 8 bytes at a changed, and all else as it was
+abbrev pub setReg : ℕ → ℕ → State → State
+setReg k v s = record { regs = put (s .regs) k v; flags = s .flags; mem = s .mem }
 
--- ---- the operations (SDM 2: MOV, ADD, SUB, CMP, LEA), and the flags that they set (SDM 1: 3.4.3.1)
+abbrev pub setFlags : Flags → State → State
+setFlags f s = record { regs = s .regs; flags = f; mem = s .mem }
+
+abbrev pub setBytes : ℕ → ℕ → State → State
+setBytes a v s = record { regs = s .regs; flags = s .flags; mem = write8 (s .mem) a v }
+
+-- ---- the operations (SDM 2: ADD, SUB), and the flags that they set (SDM 1: 3.4.3.1)
 
 pub data Op : Type 0 where
-  mov : Op
   add : Op
   sub : Op
-  cmp : Op
+
+-- the result's low bits, for operands below the size
+unfoldable pub result : Op → Bool → ℕ → ℕ → ℕ
+result add w a b = (a + b) % size w
+result sub w a b = (a + (size w - b)) % size w
 
 -- PF: the low byte has an even count of set bits
 unfoldable pub evenParity : ℕ → Bool
@@ -92,43 +97,19 @@ unfoldable pub negative : Bool → ℕ → Bool
 negative w x = leb (size w / 2) x
 
 unfoldable pub sameSign : Bool → ℕ → ℕ → Bool
-sameSign w x y = cond (negative w x) (negative w y) (not (negative w y))
+sameSign w x y = Bool·beq (negative w x) (negative w y)
 
 -- ZF, SF and PF go by the result r alone
 abbrev pub flagsBy : Bool → ℕ → Bool → Bool → Bool → Flags
 flagsBy w r c a o = record { cf = c; pf = evenParity r; af = a; zf = eqb r 0; sf = negative w r; of = o }
 
--- a + b, whose low bits are r: carries out of the top and out of bit 3; OF where both signs differ from the result's
-unfoldable pub addFlags : Bool → ℕ → ℕ → ℕ → Flags
-addFlags w a b r =
+-- a + b: carries out of the top and out of bit 3; OF where both signs differ from the result's. a - b: borrows into the top and into bit 3;
+-- OF where the signs differ and the result's is not a's
+unfoldable pub flagsAfter : Op → Bool → ℕ → ℕ → ℕ → Flags
+flagsAfter add w a b r =
     flagsBy w r (leb (size w) (a + b)) (leb 16 (a % 16 + b % 16)) (sameSign w a b && not (sameSign w a r))
-
--- a - b, whose low bits are r: borrows into the top and into bit 3; OF where the signs differ and the result's is not a's
-unfoldable pub subFlags : Bool → ℕ → ℕ → ℕ → Flags
-subFlags w a b r =
+flagsAfter sub w a b r =
     flagsBy w r (ltb a b) (ltb (a % 16) (b % 16)) (not (sameSign w a b) && not (sameSign w a r))
-
--- an operation of size w on register k and a value below that size; "a 32-bit write clears the upper half" (SDM 1: 3.4.1.1)
-unfoldable pub exec : Op → Bool → ℕ → ℕ → State → State
-exec mov w k v s = record { regs = put (s .regs) k v; flags = s .flags; mem = s .mem }
-exec add w k v s =
-    let a = s .regs k % size w in
-    let r = (a + v) % size w in
-    record { regs = put (s .regs) k r; flags = addFlags w a v r; mem = s .mem }
-exec sub w k v s =
-    let a = s .regs k % size w in
-    let r = (a + (size w - v)) % size w in
-    record { regs = put (s .regs) k r; flags = subFlags w a v r; mem = s .mem }
-exec cmp w k v s =
-    let a = s .regs k % size w in
-    let r = (a + (size w - v)) % size w in
-    record { regs = s .regs; flags = subFlags w a v r; mem = s .mem }
-
--- "FF /2 and E8 then push next at rsp − 8" (SDM 2: CALL), 8 bytes whatever W says (SDM 2: 2.2.1.7)
-unfoldable pub push : ℕ → State → State
-push v s =
-    let sp = (s .regs 4 + (word - 8)) % word in
-    record { regs = put (s .regs) 4 sp; flags = s .flags; mem = write8 (s .mem) sp v }
 
 -- ---- the decoder
 
@@ -138,89 +119,128 @@ pub data Source : Type 0 where
   imm : Source
   addr : Source
 
--- no instruction, or one with the count of the bytes before its field of four bytes, which ends it
-pub data Form : Type 0 where
-  bad : Form
-  alu : Op → Bool → ℕ → Source → ℕ → Form
-  call : Source → ℕ → Form
-  jump : Source → ℕ → Form
+-- where a result goes
+pub data Target : Type 0 where
+  nowhere : Target
+  into : ℕ → Target
+
+-- what an instruction does: it moves a value of a size into a register; it operates, at a size, on a register and a value, its result goes
+-- to a target, and it sets the flags or not; it calls; it jumps; or the machine has no step for it
+pub data Action : Type 0 where
+  bad : Action
+  move : Bool → ℕ → Source → Action
+  alu : Op → Bool → Target → ℕ → Source → Bool → Action
+  call : Source → Action
+  jump : Source → Action
+
+-- with the count of its bytes, of which the last four are its field
+pub record Form : Type 0 where
+  pub action : Action
+  pub long : ℕ
+
+abbrev pub form : Action → ℕ → Form
+form a n = record { action = a; long = n }
+
+-- the operations on register k by their digits: add, sub, and cmp, which is sub without a target (SDM 2: A.4.2)
+unfoldable pub byDigit : Bool → ℕ → Source → ℕ → Action
+byDigit w k f digit =
+    cond (eqb digit 0) (alu add w (into k) k f true)
+    (cond (eqb digit 5) (alu sub w (into k) k f true)
+    (cond (eqb digit 7) (alu sub w nowhere k f true) bad))
 
 -- mod 00, r/m 101: RIP-relative (SDM 2: 2.2.1.6)
 abbrev pub ripRelative : ℕ → Bool
 ripRelative m = eqb (m / 64) 0 && eqb (m % 8) 5
 
-abbrev pub reg : ℕ → ℕ
-reg m = m / 8 % 8
+-- "8B, 03, 2B, 3B are mov, add, sub, cmp with what lies in the slot .. 8D moves next + field in. FF /2, /4 go to the 8 bytes in the slot":
+-- opcode o with a RIP-relative operand, on register k or with digit n
+unfoldable pub viaRip : Bool → ℕ → ℕ → ℕ → Action
+viaRip w o k n =
+    cond (eqb o 0x8B) (move w k slot)
+    (cond (eqb o 0x03) (byDigit w k slot 0)
+    (cond (eqb o 0x2B) (byDigit w k slot 5)
+    (cond (eqb o 0x3B) (byDigit w k slot 7)
+    (cond (eqb o 0x8D) (move w k addr)
+    (cond (eqb o 0xFF && eqb n 2) (call slot)
+    (cond (eqb o 0xFF && eqb n 4) (jump slot) bad))))))
 
--- 81 /0 /5 /7, C7 /0 on a register; FF /2 /4 through a slot (SDM 2: A.4.2)
-abbrev pub group81 : Bool → ℕ → ℕ → ℕ → Form
-group81 w k n h =
-    cond (eqb n 0) (alu add w k imm h)
-    (cond (eqb n 5) (alu sub w k imm h)
-    (cond (eqb n 7) (alu cmp w k imm h) bad))
+-- "C7 /0, 81 /0, /5, /7 the same with that field itself": opcode o with digit n on register k
+unfoldable pub onRegister : Bool → ℕ → ℕ → ℕ → Action
+onRegister w o k n = cond (eqb o 0xC7 && eqb n 0) (move w k imm) (cond (eqb o 0x81) (byDigit w k imm n) bad)
 
-abbrev pub groupC7 : Bool → ℕ → ℕ → ℕ → Form
-groupC7 w k n h = cond (eqb n 0) (alu mov w k imm h) bad
-
-abbrev pub groupFF : ℕ → ℕ → Form
-groupFF n h = cond (eqb n 2) (call slot h) (cond (eqb n 4) (jump slot h) bad)
-
--- after p prefix bytes with W and the high parts r and b of the register numbers: opcode o, ModRM m; `rel` says whether E8 and E9 are
--- defined after this prefix
-abbrev pub opcode : ℕ → Bool → ℕ → ℕ → Bool → ℕ → ℕ → Form
+-- "E8, E9 to next + field". Opcode o and ModRM m after p prefix bytes with W and the high parts r and b of the register numbers; `rel` says
+-- whether E8 and E9 are defined after this prefix
+unfoldable pub opcode : ℕ → Bool → ℕ → ℕ → Bool → ℕ → ℕ → Form
 opcode p w r b rel o m =
-    let h = p + 2 in
-    let direct = eqb (m / 64) 3 in
-    let rip = ripRelative m in
-    cond (eqb o 0x8B) (cond rip (alu mov w (r + reg m) slot h) bad)
-    (cond (eqb o 0x03) (cond rip (alu add w (r + reg m) slot h) bad)
-    (cond (eqb o 0x2B) (cond rip (alu sub w (r + reg m) slot h) bad)
-    (cond (eqb o 0x3B) (cond rip (alu cmp w (r + reg m) slot h) bad)
-    (cond (eqb o 0x8D) (cond rip (alu mov w (r + reg m) addr h) bad)
-    (cond (eqb o 0xC7) (cond direct (groupC7 w (b + m % 8) (reg m) h) bad)
-    (cond (eqb o 0x81) (cond direct (group81 w (b + m % 8) (reg m) h) bad)
-    (cond (eqb o 0xFF) (cond rip (groupFF (reg m) h) bad)
-    (cond (eqb o 0xE8) (cond rel (call addr (p + 1)) bad)
-    (cond (eqb o 0xE9) (cond rel (jump addr (p + 1)) bad) bad)))))))))
+    cond (rel && eqb o 0xE8) (form (call addr) (p + 5))
+    (cond (rel && eqb o 0xE9) (form (jump addr) (p + 5))
+    (form
+    (cond (ripRelative m) (viaRip w o (r + m / 8 % 8) (m / 8 % 8))
+    (cond (eqb (m / 64) 3) (onRegister w o (b + m % 8) (m / 8 % 8)) bad))
+    (p + 6)))
 
--- the form that the first four bytes begin: REX 40 to 4F with W, R, B (SDM 2: 2.2.1.2); REX2, D5 and a payload with M0, R4, W, R3, B4, B3
--- (APX: REX2; X3 and X4 extend an index, which no form here has), where M0 is another opcode map and E8, E9 are undefined; 67 before E8 (document 01: it "only adds length"); no prefix
-unfoldable pub decode : ℕ → ℕ → ℕ → ℕ → Form
-decode b0 b1 b2 b3 =
+-- the form that begins a code: REX 40 to 4F with W, R, B (SDM 2: 2.2.1.2); REX2, D5 and a payload with M0, R4, W, R3, B4, B3 (APX: REX2;
+-- X3 and X4 extend an index, which no form here has), where M0 is another opcode map and E8, E9 are undefined; 67 before E8 (document 01: it
+-- "only adds length"); no prefix
+unfoldable pub decode : List ℕ → Form
+decode code =
+    let b0 = getD code 0 0 in
+    let b1 = getD code 1 0 in
+    let b2 = getD code 2 0 in
     cond (eqb (b0 / 16) 4) (opcode 1 (isSet b0 3) (bit b0 2 * 8) (bit b0 0 * 8) true b1 b2)
     (cond (eqb b0 0xD5)
-    (cond (isSet b1 7) bad
-    (opcode 2 (isSet b1 3) (bit b1 6 * 16 + bit b1 2 * 8) (bit b1 4 * 16 + bit b1 0 * 8) false b2 b3))
-    (cond (eqb b0 0x67) (cond (eqb b1 0xE8) (call addr 2) bad)
+    (cond (isSet b1 7) (form bad 6)
+    (opcode 2 (isSet b1 3) (bit b1 6 * 16 + bit b1 2 * 8) (bit b1 4 * 16 + bit b1 0 * 8) false b2 (getD code 3 0)))
+    (cond (eqb b0 0x67) (form (cond (eqb b1 0xE8) (call addr) bad) 6)
     (opcode 0 false 0 0 true b0 b1)))
-
-abbrev pub decodeAt : List ℕ → ℕ → Form
-decodeAt sec at = decode (getD sec at 0) (getD sec (at + 1) 0) (getD sec (at + 2) 0) (getD sec (at + 3) 0)
 
 -- ---- a step
 
 -- the operand, with the field d and the address n after the instruction
-abbrev pub operand : Source → Bool → (ℕ → ℕ) → ℕ → ℕ → ℕ
-operand slot w m d n = load w m ((n + signed32 d) % word)
-operand imm w m d n = signed32 d % size w
-operand addr w m d n = (n + signed32 d) % word % size w
+abbrev pub operand : Source → Bool → State → ℕ → ℕ → ℕ
+operand slot w s d n = cond w read8 read4 (s .mem) ((n + signed32 d) % word)
+operand imm w s d n = signed32 d % size w
+operand addr w s d n = (n + signed32 d) % word % size w
+
+-- a value below its size: "a 32-bit write clears the upper half" (SDM 1: 3.4.1.1)
+abbrev pub store : Target → ℕ → State → State
+store nowhere v s = s
+store (into k) v s = setReg k v s
+
+-- an operation on a and b, below its size; its target; whether it sets the flags
+unfoldable pub exec : Op → Bool → Target → Bool → ℕ → ℕ → State → State
+exec o w t f a b s =
+    let r = result o w a b in
+    store t r (cond f (setFlags (flagsAfter o w a b r) s) s)
+
+-- "FF /2 and E8 then push next at rsp − 8" (SDM 2: CALL), 8 bytes whatever W says (SDM 2: 2.2.1.7)
+unfoldable pub push : ℕ → State → State
+push v s =
+    let sp = (s .regs 4 + (word - 8)) % word in
+    setReg 4 sp (setBytes sp v s)
 
 -- "next is the address after the instruction, where it goes on unless it calls or jumps" (SDM 2: CALL, JMP; near branches are 64 bits wide,
--- 2.2.1.7): form, field, the instruction's address, state
-abbrev pub perform : Form → ℕ → ℕ → State → Result
-perform bad d a s = stop
-perform (alu o w k f h) d a s = stepped (exec o w k (operand f w (s .mem) d ((a + h + 4) % word)) s) ((a + h + 4) % word)
-perform (call f h) d a s = stepped (push ((a + h + 4) % word) s) (operand f true (s .mem) d ((a + h + 4) % word))
-perform (jump f h) d a s = stepped s (operand f true (s .mem) d ((a + h + 4) % word))
+-- 2.2.1.7): action, field, next, state
+abbrev pub perform : Action → ℕ → ℕ → State → Result
+perform bad d n s = stop
+perform (move w k f) d n s = stepped (setReg k (operand f w s d n) s) n
+perform (alu o w t k f b) d n s = stepped (exec o w t b (s .regs k % size w) (operand f w s d n) s) n
+perform (call f) d n s = stepped (push n s) (operand f true s d n)
+perform (jump f) d n s = stepped s (operand f true s d n)
 
-abbrev pub header : Form → ℕ
-header bad = 0
-header (alu o w k f h) = h
-header (call f h) = h
-header (jump f h) = h
+-- "fed an instruction's bytes .., the address they are loaded at and that demand's state": the instruction that begins a code at address a,
+-- and lies whole in it
+unfoldable pub stepAt : List ℕ → ℕ → State → Result
+stepAt code a s =
+    let f = decode code in
+    cond (leb (f .long) (length code)) (perform (f .action) (fieldAt code (f .long - 4)) ((a + f .long) % word) s) stop
 
--- the step of the instruction that begins at byte `at` of a section loaded at `base`; it lies whole in the section
-unfoldable pub step : List ℕ → ℕ → ℕ → State → Result
-step sec at base s =
-    let f = decodeAt sec at in
-    cond (leb (at + header f + 4) (length sec)) (perform f (fieldAt sec (at + header f)) ((base + at) % word) s) stop
+-- the one that begins at byte `at` of a section loaded at `base`
+abbrev pub step : List ℕ → ℕ → ℕ → State → Result
+step sec at base s = stepAt (drop at sec) ((base + at) % word) s
+
+-- n steps more, each at the address where the one before goes on
+unfoldable pub run : List ℕ → ℕ → ℕ → Result → Result
+run sec base zero r = r
+run sec base (suc n) stop = stop
+run sec base (suc n) (stepped s a) = run sec base n (step sec ((a + (word - base % word)) % word) base s)

@@ -6,9 +6,10 @@ use mathlib.Core.List.{List}
 use Prim.Native.Nat.{ℕ, _+_, _-_, _%_, _≤_}
 use lib.Dec.{T, eqb}
 use lib.ListN.{length, getD}
-use lib.IntN.{ℤ}
+use Rattle.x86_64_kind.specs.declared.RelaxationKind.{RelaxationKind}
+use Rattle.rules.specs.declared.Relocation.{Relocation}
 use Rattle.rules.specs.Answer.{gives}
-use Rattle.rules.specs.Kinds.{RelaxationKind}
+use Rattle.rules.specs.Record.{Limit}
 use Rattle.rules.specs.Choose.{chosen, choosing, isRexW}
 use Rattle.rules.specs.Rewrite.{Rewritten, rewriting, relaxed, relaxing, Filled}
 use Rattle.rules.specs.Machine.{State, Result, stepped, word, signed32, fieldAt, read8, ripRelative, step}
@@ -24,12 +25,16 @@ head type = cond (eqb type 41) 2 (cond (eqb type 43 || eqb type 44) 4 3)
 abbrev pub begins : ℕ → ℕ → Bool
 begins type b = cond (eqb type 41) (eqb b 0x8B || eqb b 0xFF) (cond (eqb type 43 || eqb type 44) (eqb b 0xD5) (isRexW b))
 
--- it lies whole in the section, "its operand RIP-relative with the field at the offset"
-pub record Instruction (type : ℕ) (sec : List ℕ) (off : ℕ) : Type 0 where
-  pub low : head type ≤ off
-  pub whole : off + 4 ≤ length sec
-  pub first : T (begins type (getD sec (off - head type) 0))
-  pub rip : T (ripRelative (getD sec (off - 1) 0))
+abbrev pub start : Relocation → ℕ
+start r = r .offset - head (r .«r_type»)
+
+-- a record's instruction lies whole in the section, "its operand RIP-relative with the field at the offset"
+pub record Instruction (sec : List ℕ) (r : Relocation) : Type 0 where
+  pub type : T (covered (r .«r_type»))
+  pub low : head (r .«r_type») ≤ r .offset
+  pub whole : r .offset + 4 ≤ length sec
+  pub first : T (begins (r .«r_type») (getD sec (start r) 0))
+  pub rip : T (ripRelative (getD sec (r .offset - 1) 0))
 
 -- "what lies in the slot, at next + signed field": its 8 bytes, for an instruction whose field stands at `off` and ends it
 abbrev pub slotValue : List ℕ → ℕ → ℕ → (ℕ → ℕ) → ℕ
@@ -42,26 +47,26 @@ pub record Alike (x y : Result) : Type 0 where
   pub first : x ≡ stepped after goesOn
   pub second : y ≡ stepped after goesOn
 
--- for a section after rewriting, and every state, load address and filled section
-abbrev pub EndsAlike : ℕ → List ℕ → ℕ → ℕ → Rewritten → Type 0
-EndsAlike type sec off t r =
+-- a record whose new type is t, with its section rewritten: for every load address, state and filled section
+abbrev pub EndsAlike : List ℕ → Relocation → ℕ → Rewritten → Type 0
+EndsAlike sec r t x =
     (base : ℕ) (s : State) (new : List ℕ)
-    → Filled t (r .addend) (r .offset) base (slotValue sec off base (s .mem)) (r .bytes) new
-    → Alike (step sec (off - head type) base s) (step new (off - head type) base s)
+    → Filled t (x .addend) (x .offset) base (slotValue sec (r .offset) base (s .mem)) (x .bytes) new
+    → Alike (step sec (start r) base s) (step new (start r) base s)
 
-pub record SameMeaning : Type 0 where
+-- what is said of a section's records, whatever the limit
+pub record SameMeaning (sec : List ℕ) : Type 0 where
   -- after relaxing
   pub relaxes :
-      (type : ℕ) (sec : List ℕ) (off flags kind address : ℕ) (addend : ℤ) (executable : Bool)
-      → T (covered type) → Instruction type sec off
-      → (k : RelaxationKind) (t : ℕ) (m : Bool) (r : Rewritten)
-      → relaxing sec off flags kind address addend type executable ≡ gives (relaxed k t m r)
-      → EndsAlike type sec off t r
+      (l : Limit) (r : Relocation) → Instruction sec r
+      → (k : RelaxationKind) (t : ℕ) (m : Bool) (x : Rewritten) → relaxing l sec r ≡ gives (relaxed k t m x)
+      → EndsAlike sec r t x
   -- after choosing and then rewriting
   pub rewrites :
-      (type : ℕ) (sec : List ℕ) (off flags kind address : ℕ) (addend : ℤ) (executable : Bool)
-      → T (covered type) → Instruction type sec off
-      → (k : RelaxationKind) (t : ℕ) (m : Bool) (r : Rewritten)
-      → choosing sec off flags kind address addend type executable ≡ gives (chosen k t m)
-      → rewriting k sec off addend ≡ gives r
-      → EndsAlike type sec off t r
+      (l : Limit) (r : Relocation) → Instruction sec r
+      → (k : RelaxationKind) (t : ℕ) (m : Bool) (x : Rewritten) → choosing l sec r ≡ gives (chosen k t m)
+      → rewriting l k sec (r .offset) (r .addend) ≡ gives x
+      → EndsAlike sec r t x
+
+abbrev pub AlwaysSameMeaning : Type 0
+AlwaysSameMeaning = (sec : List ℕ) → SameMeaning sec

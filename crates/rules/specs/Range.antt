@@ -16,8 +16,7 @@ contains (within min max) v = leZ min v && ltZ v max
 contains unchecked v = true
 
 pub data Sign : Type 0 where
-  signed : Sign
-  unsigned : Sign
+  signed unsigned : Sign
 
 -- bit i of a number
 abbrev pub bit : ℕ → ℕ → ℕ

@@ -9,11 +9,16 @@ use lib.Seq.{sets}
 use lib.IntN.{ℤ, pos, negsuc}
 use Rattle.rules.specs.Answer.{Answer, gives, refuses}
 use Rattle.rules.specs.Range.{bit, signed64}
-use Rattle.rules.specs.Kinds.{RelaxationKind, MovIndirectToLea, MovIndirectToAbsolute, RexMovIndirectToAbsolute, RexAddIndirectToAbsolute}
-use Rattle.rules.specs.Kinds.{RexAddIndirectToLea, RexSubIndirectToAbsolute, RexCmpIndirectToAbsolute, CallIndirectToRelative, JmpIndirectToRelative}
-use Rattle.rules.specs.Kinds.{NoOp, TlsGdToLocalExec, TlsGdToLocalExecLarge, TlsLdToLocalExec, TlsLdToLocalExecNoPlt, TlsLdToLocalExec64}
-use Rattle.rules.specs.Kinds.{TlsGdToInitialExec, TlsDescToLocalExec, TlsDescToInitialExec, SkipTlsDescCall, shapeOf, allowed, fits}
-use Rattle.rules.specs.Choose.{Choice, none, chosen, tooLong, past, choosing, inRange}
+use Rattle.x86_64_kind.specs.declared.RelaxationKind.{RelaxationKind}
+use Rattle.x86_64_kind.specs.declared.RelaxationKind.the-variants.{MovIndirectToLea, MovIndirectToAbsolute, RexMovIndirectToAbsolute, RexAddIndirectToAbsolute}
+use Rattle.x86_64_kind.specs.declared.RelaxationKind.the-variants.{RexAddIndirectToLea, RexSubIndirectToAbsolute, RexCmpIndirectToAbsolute, CallIndirectToRelative, JmpIndirectToRelative}
+use Rattle.x86_64_kind.specs.declared.RelaxationKind.the-variants.{NoOp, TlsGdToLocalExec, TlsGdToLocalExecLarge, TlsLdToLocalExec, TlsLdToLocalExecNoPlt}
+use Rattle.x86_64_kind.specs.declared.RelaxationKind.the-variants.{TlsLdToLocalExec64, TlsGdToInitialExec, TlsDescToLocalExec, TlsDescToInitialExec, SkipTlsDescCall}
+use Rattle.x86_64_kind.specs.declared.Window.{Window}
+use Rattle.x86_64_kind.specs.Kinds.{shapeOf, begin, inside, allowed}
+use Rattle.rules.specs.declared.Relocation.{Relocation}
+use Rattle.rules.specs.Record.{Limit, tooLong, past}
+use Rattle.rules.specs.Choose.{Choice, none, chosen, choosing, inRange}
 
 -- ---- "The register field moves with its high bits"
 
@@ -111,12 +116,6 @@ rewritten TlsDescToInitialExec sec at = sets sec (at - 2) (0x8B ∷ [])
 -- xchg %ax,%ax
 rewritten SkipTlsDescCall sec at = sets sec at (0x66 ∷ 0x90 ∷ [])
 
-abbrev pub newOffset : RelaxationKind → ℕ → ℕ
-newOffset k o = shapeOf k .offset o
-
-abbrev pub newAddend : RelaxationKind → ℤ → ℤ
-newAddend k a = cond (shapeOf k .clears) (pos 0) a
-
 -- ---- rewriting alone, and relaxing
 
 pub record Rewritten : Type 0 where
@@ -124,15 +123,25 @@ pub record Rewritten : Type 0 where
   pub offset : ℕ
   pub addend : ℤ
 
+-- "New bytes, offset and addend are those of `apply`"
 abbrev pub rewrite : RelaxationKind → List ℕ → ℕ → ℤ → Rewritten
-rewrite k sec off a = record { bytes = rewritten k sec off; offset = newOffset k off; addend = newAddend k a }
+rewrite k sec off a =
+    record {
+      bytes = rewritten k sec off;
+      offset = begin (shapeOf k .window) off + shapeOf k .field;
+      addend = cond (shapeOf k .clears) (pos 0) a;
+    }
 
 -- "Rewriting alone: 1, 2, 5, 6"
-unfoldable pub rewriting : RelaxationKind → List ℕ → ℕ → ℤ → Answer Rewritten
-rewriting k sec off a =
-    cond (tooLong sec) (refuses 1)
+unfoldable pub rewriting : Limit → RelaxationKind → List ℕ → ℕ → ℤ → Answer Rewritten
+rewriting l k sec off a =
+    cond (tooLong l sec) (refuses (l .refusal))
     (cond (past sec off) (refuses 2)
-    (cond (allowed k) (cond (fits k (length sec) off) (gives (rewrite k sec off a)) (refuses 6)) (refuses 5)))
+    (cond (allowed k) (cond (inside (shapeOf k .window) (length sec) off) (gives (rewrite k sec off a)) (refuses 6)) (refuses 5)))
+
+-- what relaxing and a pass claim of a section, for a kind and its new type: the kind's own window
+unfoldable pub claims : RelaxationKind → ℕ → Window
+claims k t = shapeOf k .window
 
 -- none, or the choice with what rewriting gives
 pub data Relaxed : Type 0 where
@@ -140,15 +149,15 @@ pub data Relaxed : Type 0 where
   relaxed : RelaxationKind → ℕ → Bool → Rewritten → Relaxed
 
 -- "6 only where a kind was chosen"
-unfoldable pub relaxChosen : List ℕ → ℕ → ℤ → Answer Choice → Answer Relaxed
-relaxChosen sec off a (refuses n) = refuses n
-relaxChosen sec off a (gives none) = gives unrelaxed
-relaxChosen sec off a (gives (chosen k t m)) = cond (fits k (length sec) off) (gives (relaxed k t m (rewrite k sec off a))) (refuses 6)
+unfoldable pub relaxChosen : List ℕ → Relocation → Answer Choice → Answer Relaxed
+relaxChosen sec r (refuses n) = refuses n
+relaxChosen sec r (gives none) = gives unrelaxed
+relaxChosen sec r (gives (chosen k t m)) =
+    cond (inside (claims k t) (length sec) (r .offset)) (gives (relaxed k t m (rewrite k sec (r .offset) (r .addend)))) (refuses 6)
 
--- "Relaxing: 1, 2, 3, 4, choice, 6": section, offset, flags, output kind, address, addend, type, executable
-unfoldable pub relaxing : List ℕ → ℕ → ℕ → ℕ → ℕ → ℤ → ℕ → Bool → Answer Relaxed
-relaxing sec off flags kind address addend type executable =
-    relaxChosen sec off addend (choosing sec off flags kind address addend type executable)
+-- "Relaxing: 1, 2, 3, 4, choice, 6"
+unfoldable pub relaxing : Limit → List ℕ → Relocation → Answer Relaxed
+relaxing l sec r = relaxChosen sec r (choosing l sec r)
 
 -- the section afterwards: "A refusal gives its number alone", and changes nothing
 unfoldable pub afterRewriting : List ℕ → Answer Rewritten → List ℕ

@@ -8,7 +8,9 @@ use lib.IntN.{ℤ, pos, negsuc}
 use lib.ListN.{replicate}
 use lib.Seq.{sets}
 use Rattle.rules.specs.Answer.{Answer, gives, refuses}
-use Rattle.rules.specs.Kinds.{MovIndirectToLea, MovIndirectToAbsolute, RexMovIndirectToAbsolute, RexAddIndirectToAbsolute, JmpIndirectToRelative, NoOp, SkipTlsDescCall}
+use Rattle.x86_64_kind.specs.declared.RelaxationKind.the-variants.{MovIndirectToLea, MovIndirectToAbsolute, RexMovIndirectToAbsolute, RexAddIndirectToAbsolute}
+use Rattle.x86_64_kind.specs.declared.RelaxationKind.the-variants.{JmpIndirectToRelative, NoOp, SkipTlsDescCall}
+use Rattle.rules.specs.Record.{linkLimit, relocation}
 use Rattle.rules.specs.Rewrite.{Rewritten, Relaxed, unrelaxed, relaxed, relaxing}
 use Rattle.rules.specs.Plt.{template, pltAnswer, pltBytes}
 
@@ -24,7 +26,7 @@ pub record Starred : Type 0 where
 
 -- executable, type, section, offset, flags, output kind, address, addend
 abbrev any : Bool → ℕ → List ℕ → ℕ → ℕ → ℕ → ℕ → ℤ → Answer Relaxed → Starred
-any x t s o f k v a r = record { found = relaxes (relaxing s o f k v a t x); told = relaxes r }
+any x t s o f k v a r = record { found = relaxes (relaxing linkLimit s (relocation t o f k x v a)); told = relaxes r }
 
 abbrev row : ℕ → List ℕ → ℕ → ℕ → ℕ → ℕ → ℤ → Answer Relaxed → Starred
 row = any true

@@ -1,5 +1,5 @@
 -- Document 01, 'Below: types': the 39 relocation types that `relocation_from_raw` knows, and the dynamic types. Assumes nothing.
-use mathlib.Core.Bool.{Bool, false, cond}
+use mathlib.Core.Bool.{cond}
 use mathlib.Core.List.{List, [], _∷_, _++_}
 use Prim.Native.Nat.{ℕ, _^_}
 use lib.Dec.{eqb}
@@ -10,22 +10,9 @@ use Rattle.rules.specs.Range.{Range, within, unchecked, signed, unsigned
 
 -- what the field is to hold: the kinds of `RelocationKind` that x86-64 uses, in the Rust's order among these sixteen
 pub data Kind : Type 0 where
-  Absolute : Kind
-  SymbolSize : Kind
-  Relative : Kind
-  SymRelGotBase : Kind
-  GotRelGotBase : Kind
-  PltRelGotBase : Kind
-  PltRelative : Kind
-  GotRelative : Kind
-  TlsGd : Kind
-  TlsLd : Kind
-  DtpOff : Kind
-  GotTpOff : Kind
-  TpOff : Kind
-  TlsDesc : Kind
-  TlsDescCall : Kind
-  None : Kind
+  Absolute SymbolSize Relative SymRelGotBase GotRelGotBase PltRelGotBase : Kind
+  PltRelative GotRelative TlsGd TlsLd DtpOff GotTpOff : Kind
+  TpOff TlsDesc TlsDescCall None : Kind
 
 -- a kind's place in that order, from 0: its number in the interface
 abbrev pub kindNumber : Kind → ℕ
@@ -46,20 +33,14 @@ kindNumber TlsDesc = 13
 kindNumber TlsDescCall = 14
 kindNumber None = 15
 
--- a row of the lookup; past the range it is the same in every row
+-- a row of the lookup; the rest of a `RelocationKindInfo` is the same in every row (`elf`'s `infoFrom`)
 pub record Row : Type 0 where
   pub kind : Kind
   pub size : ℕ
   pub range : Range
-  pub mask : Bool
-  pub alignment : ℕ
-  pub bias : Bool
-  pub thunkable : Bool
-  pub implicit-addend : Bool
 
 abbrev pub row : Kind → ℕ → Range → Row
-row k n r =
-    record { kind = k; size = n; range = r; mask = false; alignment = 1; bias = false; thunkable = false; implicit-addend = false }
+row k n r = record { kind = k; size = n; range = r }
 
 -- a field of n bytes with the range of its width, signed or unsigned
 abbrev pub field : ℕ → Kind → Row

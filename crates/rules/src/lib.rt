@@ -1,20 +1,33 @@
-// Document 01 as definitions in specs/: the rules, the machine, and same meaning; the theorems about
-// them stand in proofs/. No code here chooses, rewrites or relaxes: the crates above state their
-// promises with these definitions, and map their own enums to the numbers used here.
+// Document 01 as definitions in specs/: the rules, the machine, and same meaning; the theorems about them stand in
+// proofs/. No code here chooses, rewrites or relaxes: the crates above state their promises with these definitions.
 ghost use mathlib.Core.Path.{_≡_};
-ghost use Rattle.rules.specs.Meaning.{SameMeaning};
-ghost use Rattle.rules.specs.Instances.{Worked};
+ghost use Rattle.rules.specs.Record.{linkLimit};
+ghost use Rattle.rules.specs.Meaning.{AlwaysSameMeaning};
+ghost use Rattle.rules.specs.Instances.{MeaningWorked};
 ghost use Rattle.rules.specs.Runs.{Measured};
 ghost use Rattle.rules.specs.Starred.{StarredHold};
 
-// Demand 3, by its number. This function promises the theorem and what keeps it from being about nothing: worked
-// instances, a machine that takes a real CPU's steps, and rules that give document 01's records.
-pub fn demand_3() -> u8
-    ensures { λ r. ⌜ r ≡ 3 ⌝ }
-    ensures { λ _. ⌜ SameMeaning ⌝ }
-    ensures { λ _. ⌜ Worked ⌝ }
+// "A record has a type number, .. an offset, a flag number, .. an output kind, an executable yes/no, a symbol address and
+// a signed addend."
+pub struct Relocation {
+    pub r_type: u32,
+    pub offset: u64,
+    pub flags: u8,
+    pub output_kind: u8,
+    pub executable: bool,
+    pub address: u64,
+    pub addend: i64,
+}
+
+// The longest section, in bytes. The theorems about the definitions, for all of them, and what keeps them from being
+// about nothing are promised here: worked instances of same meaning, a machine that takes a real CPU's steps, and rules
+// that give document 01's records.
+pub fn section_limit() -> usize
+    ensures { λ r. ⌜ r ≡ linkLimit .most ⌝ }
+    ensures { λ _. ⌜ AlwaysSameMeaning ⌝ }
+    ensures { λ _. ⌜ MeaningWorked ⌝ }
     ensures { λ _. ⌜ Measured ⌝ }
     ensures { λ _. ⌜ StarredHold ⌝ }
 {
-    3
+    268435456
 }

@@ -1,52 +1,47 @@
 -- The tables' answers in the exported layouts: every field, for what is given and for a refusal. Assumes nothing.
-use mathlib.Core.Bool.{false, not}
+use mathlib.Core.Bool.{Bool, false, not}
 use Prim.Native.Nat.{ℕ}
 use lib.IntN.{pos}
 use Rattle.rules.specs.Answer.{Answer, gives, refuses}
-use Rattle.rules.specs.Record.{isE, isS, isP, isF, isK, nonInterposable, absolute, dynamic, ifunc}
+use Rattle.rules.specs.Record.{isE, isS, isP, isF, isK, isN, absolute, dynamic, ifunc}
 use Rattle.rules.specs.Types.{Row, kindNumber}
-use Rattle.elf.specs.Elf.{kindOf, infoFrom}
+use Rattle.elf.specs.Elf.{relocationKindOf}
 use Rattle.elf.specs.declared.RelocationKindInfo.{RelocationKindInfo}
+use Rattle.x86_64_types.specs.Types.{foundOf}
+use Rattle.x86_64_types.specs.declared.RelocationFound.{RelocationFound}
+use Rattle.x86_64_types.specs.declared.RelocationFound.the-variants.{Is, Refused}
 use Rattle.table_answers.specs.declared.OutputKindAnswer.{OutputKindAnswer}
 use Rattle.table_answers.specs.declared.ValueFlagsAnswer.{ValueFlagsAnswer}
 use Rattle.table_answers.specs.declared.RelocationAnswer.{RelocationAnswer}
 
+-- the refusal, or 0; and what holds of what is given, false under a refusal
+abbrev pub refusalOf : Answer ℕ → ℕ
+refusalOf (gives k) = 0
+refusalOf (refuses n) = n
+
+abbrev pub whether : (ℕ → Bool) → Answer ℕ → Bool
+whether f (gives k) = f k
+whether f (refuses n) = false
+
 abbrev pub outputLayout : Answer ℕ → OutputKindAnswer
-outputLayout (gives k) =
+outputLayout a =
     record {
-      refusal = 0;
-      «is_executable» = isE k;
-      «is_static_executable» = isS k;
-      «is_position_independent» = isP k;
-      «has_fixed_load_address» = isF k;
-    }
-outputLayout (refuses n) =
-    record {
-      refusal = n;
-      «is_executable» = false;
-      «is_static_executable» = false;
-      «is_position_independent» = false;
-      «has_fixed_load_address» = false;
+      refusal = refusalOf a;
+      «is_executable» = whether isE a;
+      «is_static_executable» = whether isS a;
+      «is_position_independent» = whether isP a;
+      «has_fixed_load_address» = whether isF a;
     }
 
 abbrev pub flagsLayout : Answer ℕ → ValueFlagsAnswer
-flagsLayout (gives f) =
+flagsLayout a =
     record {
-      refusal = 0;
-      «is_dynamic» = dynamic f;
-      «is_ifunc» = ifunc f;
-      «has_link_time_address» = isK f;
-      «is_absolute» = absolute f;
-      «is_interposable» = not (nonInterposable f);
-    }
-flagsLayout (refuses n) =
-    record {
-      refusal = n;
-      «is_dynamic» = false;
-      «is_ifunc» = false;
-      «has_link_time_address» = false;
-      «is_absolute» = false;
-      «is_interposable» = false;
+      refusal = refusalOf a;
+      «is_dynamic» = whether dynamic a;
+      «is_ifunc» = whether ifunc a;
+      «has_link_time_address» = whether isK a;
+      «is_absolute» = whether absolute a;
+      «is_interposable» = whether (λ (f : ℕ). not (isN f)) a;
     }
 
 -- a row of the lookup, as the code has it
@@ -54,7 +49,7 @@ abbrev pub infoLayout : RelocationKindInfo → RelocationAnswer
 infoLayout i =
     record {
       refusal = 0;
-      kind = kindNumber (kindOf (i .kind));
+      kind = kindNumber (relocationKindOf (i .kind));
       size = i .size .«byte_size»;
       checked = i .range .checked;
       mask = i .mask;
@@ -66,9 +61,9 @@ infoLayout i =
       max = i .range .max;
     }
 
-abbrev pub relocationLayout : Answer Row → RelocationAnswer
-relocationLayout (gives r) = infoLayout (infoFrom r)
-relocationLayout (refuses n) =
+abbrev pub foundLayout : RelocationFound → RelocationAnswer
+foundLayout (Is i) = infoLayout i
+foundLayout (Refused n) =
     record {
       refusal = n;
       kind = 0;
@@ -82,3 +77,6 @@ relocationLayout (refuses n) =
       min = pos 0;
       max = pos 0;
     }
+
+abbrev pub relocationLayout : Answer Row → RelocationAnswer
+relocationLayout a = foundLayout (foundOf a)

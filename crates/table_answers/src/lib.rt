@@ -14,7 +14,7 @@ use output_kind::OutputKind;
 use output_kind::OutputKindFound;
 use value_flags::ValueFlags;
 use value_flags::ValueFlagsFound;
-use x86_64::RelocationFound;
+use x86_64_types::RelocationFound;
 
 #[repr(C)]
 pub struct OutputKindAnswer {
@@ -102,7 +102,7 @@ pub struct RelocationAnswer {
 pub fn relocation_answer(r_type: u32) -> RelocationAnswer
     ensures { λ r. ⌜ r ≡ relocationLayout (lookup «r_type») ⌝ }
 {
-    match x86_64::relocation_from_raw(r_type) {
+    match x86_64_types::relocation_from_raw(r_type) {
         RelocationFound::Is(info) => info_answer(info),
         RelocationFound::Refused(n) => RelocationAnswer {
             refusal: n,

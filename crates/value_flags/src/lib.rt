@@ -2,7 +2,7 @@
 // The Rust's bits are others (docs/DIFFERENCES.md).
 ghost use mathlib.Core.Path.{_≡_};
 ghost use mathlib.Core.Bool.{not};
-ghost use Rattle.rules.specs.Record.{flagNumber, nonInterposable, absolute, dynamic, ifunc, isK};
+ghost use Rattle.rules.specs.Record.{flagNumber, isN, absolute, dynamic, ifunc, isK};
 ghost use Rattle.value_flags.specs.Flags.{flagsAnswer};
 
 // 01: "1 non-interposable, 2 absolute, 4 dynamic, 8 ifunc, summed".
@@ -60,7 +60,7 @@ impl ValueFlags {
     }
 
     pub fn is_interposable(self) -> bool
-        ensures { λ r. ⌜ r ≡ not (nonInterposable (self .bits)) ⌝ }
+        ensures { λ r. ⌜ r ≡ not (isN (self .bits)) ⌝ }
     {
         !(self.bits / NON_INTERPOSABLE % 2 == 1)
     }

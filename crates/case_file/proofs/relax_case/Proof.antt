@@ -24,6 +24,10 @@ relax-case-spec =
     (λ c κs. let h = length-take-le (c .before .before .before .before .before .args .case .start + c .before .before .before .before .before .args .case .len - c .before .before .before .before .before .args .case .start) (drop (c .before .before .before .before .before .args .case .start) (c .before .before .before .before .before .args .file .now)) (rw (length-drop (c .before .before .before .before .before .args .case .start) (c .before .before .before .before .before .args .file .now)) (omega (arith, c .before .before .before .before .before .pre))) in omega (arith, c .before .before .before .before .before .pre, h))
     (λ c. search needs)
     (λ c κs. search needs)
-    (λ c κs. search needs)
     (λ c. search needs)
-    (λ c. let a = c .before .before .before .before .before .before .before .before .before .before .before .before .before .before .args in let z = toZ-ofZ {w = w64} {z = c .before .before .before .as-i64 .result} (sfits-of {w = w64} (c .before .before .before .as-i64 .ok)) in let e = copied (a .section .now) (a .file .now) _ (a .case .start) (a .case .len) _ _ (c .before .before .before .before .before .before .before .before .before .before .before .before .before .before .pre .0) (c .before .before .before .before .before .before .before .before .before .before .before .before .before .before .pre .1) (c .before .before .before .before .before .before .before .before .put-bytes .ensures) in let f = rw (z, c .before .before .before .as-i64 .ensures, e) at (c .before .before .relax .ensures) in (f .0, (f .1 .0, c .before .before .relax .kept .1 .0 ∙ c .before .before .before .before .before .before .before .before .put-bytes .ensures .size ∙ c .before .before .before .before .before .before .before .before .before .before .before .before .before .before .pre .1))))
+    (λ c. let s = c .before .before .before .before .before .before .before .before .before .before .before .before .before in
+    let a = s .args in
+    let p = c .before .before .before .before .before .before .before .put-bytes .ensures in
+    let e = copied (a .section .now) (a .file .now) _ (a .case .start) (a .case .len) _ _ (s .pre .0) (s .pre .1) p in
+    let f = rw (c .before .before .before .record-of .ensures, e) at (c .before .before .relax .ensures) in
+    (f .0, (f .1 .0, c .before .before .relax .kept .0 ∙ p .size ∙ s .pre .1))))

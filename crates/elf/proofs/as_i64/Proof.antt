@@ -15,7 +15,6 @@ unfolding signed64
 as-i64-spec =
     tie.close
     (tie.spec
-    (λ c. search needs)
-    (λ c. search needs)
+    (λ c. search needs) (λ c. search needs)
     (λ c. rw (lt-ltb _ _ (c .if1 .taken)))
     (λ c. let e : 18446744073709551615 - (18446744073709551615 - c .before .args .value) ≡ c .before .args .value = omega arith in rw (e, le-ltb _ _ (c .if1 .left)) (ap negsuc (omega arith))))

@@ -11,6 +11,5 @@ byte-from-spec =
     tie.close
     (tie.spec
     (λ c. sym (byte-past _ _ (c .if1 .taken) _))
-    (λ c. search needs)
-    (λ c κs. search needs)
+    (λ c. search needs) (λ c κs. search needs)
     (λ c. search needs))

@@ -1,6 +1,5 @@
 -- `jitamoro_apply` meets its contract: what rewriting answered, laid out.
 -- Assumes nothing.
-use Rattle.record_answers.proofs.Laid.{moved-laid}
 use mir.Facts.{toZ-ofZ}
 use mir.Syntax.{w64}
 use borrow.Author.Needs.{needs}
@@ -15,4 +14,5 @@ jitamoro-apply-spec =
     (λ c κs. search needs)
     (λ c κs. search needs)
     (λ c. search needs)
-    (λ c. let e = rw (toZ-ofZ {w = w64} (c .before .before .before .before .before .before .before .fits .addend), c .before .before .before .before .before .from-number .ensures) at (c .before .before .before .apply .ensures) in (rw (e .0, moved-laid _) at (c .moved-answer .ensures), e .1)))
+    (λ c. let e = rw (toZ-ofZ {w = w64} (c .before .before .before .before .before .before .before .fits .addend), c .before .before .before .before .before .from-number .ensures) at (c .before .before .before .apply .ensures) in
+    (rw (e .0) at (c .moved-answer .ensures), e .1)))

@@ -12,4 +12,4 @@ jitamoro-new-relaxation-spec =
     (tie.spec
     (λ c κs. search needs)
     (λ c κs. search needs)
-    (λ c. rw (← rw (toZ-ofZ {w = w64} (c .before .before .before .fits .addend)) at (c .before .new-relaxation .ensures)) (c .choice-answer .ensures)))
+    (λ c. rw (rw (toZ-ofZ {w = w64} (c .before .before .before .fits .addend)) at (c .before .new-relaxation .ensures)) at (c .choice-answer .ensures)))

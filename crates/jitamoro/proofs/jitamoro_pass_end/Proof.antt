@@ -1,6 +1,5 @@
 -- `jitamoro_pass_end` meets its contract: what the ending answered, laid out.
 -- Assumes nothing.
-use Rattle.pass_answers.proofs.Laid.{end-laid}
 use borrow.Author.Needs.{needs}
 use Rattle.jitamoro.proofs.jitamoro_pass_end.Statement.{statement}
 use Rattle.jitamoro.proofs.jitamoro_pass_end.Tie as tie
@@ -11,4 +10,4 @@ jitamoro-pass-end-spec =
     (tie.spec
     (λ c κs. search needs)
     (λ c κs. search needs)
-    (λ c. rw (← c .before .end .ensures .1, ← c .before .end .ensures .0) (rw (end-laid (c .before .end .result .pass) (c .before .end .result .end)) at (c .end-answer .ensures))))
+    (λ c. rw (c .end-answer .ensures, c .before .end .ensures)))

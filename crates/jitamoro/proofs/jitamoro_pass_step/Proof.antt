@@ -1,9 +1,10 @@
 -- `jitamoro_pass_step` meets its contract: what the step answered, laid out.
 -- Assumes nothing.
-use Rattle.pass_answers.proofs.Laid.{step-laid, meaning-in}
-use mathlib.Core.Path.{_∙_}
+use mathlib.Core.Path.{ap, _∙_}
 use mir.Facts.{toZ-ofZ}
 use mir.Syntax.{w64}
+use Rattle.pass.specs.Answers.{Taken}
+use Rattle.answers.specs.Layout.{stepLayout}
 use borrow.Author.Needs.{needs}
 use Rattle.jitamoro.proofs.jitamoro_pass_step.Statement.{statement}
 use Rattle.jitamoro.proofs.jitamoro_pass_step.Tie as tie
@@ -15,4 +16,5 @@ jitamoro-pass-step-spec =
     (λ c κs. search needs)
     (λ c κs. search needs)
     (λ c. search needs)
-    (λ c. let e = rw (toZ-ofZ {w = w64} (c .before .before .before .before .before .before .fits .addend)) at (c .before .before .before .step .ensures) in (rw (← e .1 .0, ← e .0) (c .step-answer .ensures ∙ step-laid (c .before .before .before .step .result .pass) (c .before .before .before .step .result .step) _), (e .1 .1 .0, rw (c .step-answer .ensures) (meaning-in _ _ _ (c .before .before .before .step .result .step) _ (e .1 .1 .1))))))
+    (λ c. let e = rw (toZ-ofZ {w = w64} (c .before .before .before .before .before .before .fits .addend)) at (c .before .before .before .step .ensures) in
+    (c .step-answer .ensures ∙ ap (λ (t : Taken). stepLayout (t .stepped)) (e .0), (ap (λ (t : Taken). t .section) (e .0), e .1))))

@@ -1,7 +1,5 @@
 -- `jitamoro_relax` meets its contract: what relaxing answered, laid out.
 -- Assumes nothing.
-use Rattle.record_answers.proofs.Laid.{done-laid, meaning-laid}
-use mathlib.Core.Path.{_∙_}
 use mir.Facts.{toZ-ofZ}
 use mir.Syntax.{w64}
 use borrow.Author.Needs.{needs}
@@ -15,4 +13,5 @@ jitamoro-relax-spec =
     (λ c κs. search needs)
     (λ c κs. search needs)
     (λ c. search needs)
-    (λ c. let e = rw (toZ-ofZ {w = w64} (c .before .before .before .before .before .before .fits .addend)) at (c .before .before .before .relax .ensures) in (rw (← e .0) (c .relaxed-answer .ensures .0 ∙ done-laid (c .before .before .before .relax .result) _), (e .1 .0, rw (c .relaxed-answer .ensures .0) (meaning-laid _ _ _ (c .before .before .before .relax .result) _ (e .1 .1))))))
+    (λ c. let e = rw (toZ-ofZ {w = w64} (c .before .before .before .before .before .before .fits .addend)) at (c .before .before .before .relax .ensures) in
+    (rw (e .0) at (c .relaxed-answer .ensures), e .1)))

@@ -12,6 +12,6 @@ jitamoro-write-plt-entry-spec =
     (λ c. search needs)
     (λ c. search needs)
     (λ c. search needs)
-    (λ c. (rw (← c .before .before .before .before .write-plt-entry .ensures .0, c .enum-told .given .1), c .before .before .before .before .write-plt-entry .ensures .1))
+    (λ c. (rw (← c .before .before .before .before .write-plt-entry .ensures .0, c .enum-told .given .1), c .before .before .before .before .write-plt-entry .ensures .1 .0))
     (λ c. search needs)
-    (λ c. (rw (← c .before .before .before .before .before .write-plt-entry .ensures .0, c .before .n .given .1), c .before .before .before .before .before .write-plt-entry .ensures .1)))
+    (λ c. (rw (← c .before .before .before .before .before .write-plt-entry .ensures .0, c .before .n .given .1), c .before .before .before .before .before .write-plt-entry .ensures .1 .0)))

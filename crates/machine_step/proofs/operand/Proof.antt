@@ -1,10 +1,9 @@
 -- `operand` meets its contract: each source is the low bits of its value.
 -- Assumes nothing.
-use mathlib.Core.Path.{_≡_, sym, _∙_}
-use Prim.Native.Nat.{ℕ, _<_}
+use mathlib.Core.Path.{sym, _∙_}
 use native.Mathlib.Omega.{arith}
-use Rattle.rules.specs.Machine.{size}
-use Rattle.machine_step.proofs.Laws.{loads, low-lt}
+use borrow.Author.Tests.{ne-eqb}
+use Rattle.machine_step.proofs.Laws.{loads}
 use borrow.Author.Needs.{needs}
 use Rattle.machine_step.proofs.operand.Statement.{statement}
 use Rattle.machine_step.proofs.operand.Tie as tie
@@ -13,17 +12,14 @@ pub operand-spec : {M : Type 1} → statement M
 operand-spec =
     tie.close
     (tie.spec
-    (λ c. search needs)
-    (λ c κs. search needs)
-    (λ c. search needs)
     (λ c κs. search needs)
     (λ c κs. search needs)
-    (λ c. search needs)
     (λ c κs. search needs)
     (λ c κs. search needs)
-    (λ c. let a = c .before .before .before .args in
-    (λ m h. rw (c .before .enum-told .given .1) (loads (a .wide) m _ (a .slot) (omega arith) (h (rw (c .before .enum-told .given .1))) ∙ sym (c .low .ensures)), rw (c .low .ensures) (low-lt (a .wide) (a .slot))))
-    (λ c. let a = c .before .before .before .before .args in
-    (λ m h. rw (c .before .before .enum-told2 .given .1) (sym (c .low2 .ensures ∙ rw (c .before .signed32 .ensures))), rw (c .low2 .ensures) (low-lt (a .wide) _)))
-    (λ c. let a = c .before .before .before .before .args in
-    (λ m h. rw (c .before .before .enum-told3 .given .1) (sym (c .low3 .ensures ∙ rw (c .before .relative .ensures))), rw (c .low3 .ensures) (low-lt (a .wide) _))))
+    (λ c κs. search needs)
+    (λ c. let a = c .before .before .args in
+    let k = c .before .match .keys1 in
+    (λ s h. rw k (loads (a .wide) (s .mem) _ (a .slot) (omega arith) (h (rw k)) ∙ sym (c .low .ensures .0)), c .low .ensures .1))
+    (λ c. (λ s h. rw (c .before .before .match .keys2) (sym (c .low2 .ensures .0 ∙ rw (c .before .signed32 .ensures))), c .low2 .ensures .1))
+    (λ c. let k = c .before .before .match .rest in
+    (λ s h. rw (ne-eqb _ 0 (k .0 .1), ne-eqb _ 1 (k .1)) (sym (c .low3 .ensures .0 ∙ rw (c .before .relative .ensures))), c .low3 .ensures .1)))

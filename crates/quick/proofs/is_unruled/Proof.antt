@@ -10,7 +10,7 @@ is-unruled-spec =
     tie.close
     (tie.spec
     (λ c κs. search needs)
-    (λ c. rw (c .before .before .if1 .taken, c .before .if2 .taken, c .is-non-interposable .ensures))
+    (λ c. rw (c .before .before .if1 .taken, c .before .if2 .taken, c .is-interposable .ensures))
     (λ c. rw (c .before .before .if1 .taken, ne-eqb _ _ (c .before .if2 .left), lt-ltb _ _ (c .if3 .taken)))
     (λ c. rw (c .before .before .before .if1 .taken, ne-eqb _ _ (c .before .before .if2 .left), le-ltb _ _ (c .before .if3 .left), lt-ltb _ _ (c .if4 .taken)))
     (λ c. rw (c .before .before .before .if1 .taken, ne-eqb _ _ (c .before .before .if2 .left), le-ltb _ _ (c .before .if3 .left), le-ltb _ _ (c .if4 .left)))

@@ -1,10 +1,8 @@
 -- `new_relaxation` meets its contract: what a plain record's numbers settle, and the rest as it is answered below.
 -- Assumes nothing.
-use Rattle.quick.proofs.Numbers.{chooses-nothing, chooses-call}
 use mathlib.Core.Path.{sym, _∙_}
-use mir.Facts.{toZ-ofZ}
-use mir.Syntax.{w64}
 use borrow.Author.Needs.{needs}
+use Rattle.quick.proofs.Numbers.{chooses-nothing, chooses-call}
 use Rattle.quick.proofs.new_relaxation.Statement.{statement}
 use Rattle.quick.proofs.new_relaxation.Tie as tie
 
@@ -14,9 +12,10 @@ new-relaxation-spec =
     (tie.spec
     (λ c κs. search needs)
     (λ c κs. search needs)
-    (λ c. let a = c .before .before .before .before .before .args in sym (chooses-nothing (a .section-bytes .now) (a .offset-in-section) (a .flags) (a .output-kind) (a .sym-addr) (a .rel-addend) (a .relocation-kind) (a .executable) (rw (c .before .before .if1 .taken) at (c .before .before .before .is-plain .ensures)) (sym (c .before .is-unruled .ensures) ∙ c .if2 .taken)))
+    (λ c. let a = c .before .before .before .before .before .args in
+    rw (chooses-nothing (a .section-bytes .now) (a .rel) (rw (c .before .before .if1 .taken) at (c .before .before .before .is-plain .ensures)) (sym (c .before .is-unruled .ensures) ∙ c .if2 .taken)))
     (λ c κs. search needs)
+    (λ c. let a = c .before .before .before .before .before .before .before .before .args in
+    rw (c .relaxed-call .ensures, chooses-call (a .section-bytes .now) (a .rel) (rw (c .before .before .before .before .before .if1 .taken) at (c .before .before .before .before .before .before .is-plain .ensures)) (c .before .if3 .taken) (sym (c .before .before .before .before .is-unruled .ensures) ∙ c .before .before .before .if2 .left)))
     (λ c κs. search needs)
-    (λ c. let a = c .before .before .before .before .before .before .before .before .args in rw (c .relax-to .ensures, c .before .is-static .ensures) (sym (chooses-call (a .section-bytes .now) (a .offset-in-section) (a .flags) (a .output-kind) (a .sym-addr) (a .rel-addend) (a .relocation-kind) (a .executable) (rw (c .before .before .before .before .before .if1 .taken) at (c .before .before .before .before .before .before .is-plain .ensures)) (c .before .before .if3 .taken) (sym (c .before .before .before .before .is-unruled .ensures) ∙ c .before .before .before .if2 .left))))
-    (λ c κs. search needs)
-    (λ c. rw (toZ-ofZ {w = w64} (c .before .before .before .before .fits .rel-addend)) at (c .new-relaxation .ensures)))
+    (λ c. c .new-relaxation .ensures))

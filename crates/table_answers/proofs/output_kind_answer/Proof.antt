@@ -8,12 +8,7 @@ pub output-kind-answer-spec : {M : Type 1} → statement M
 output-kind-answer-spec =
     tie.close
     (tie.spec
-    (λ c κs. search needs)
-    (λ c. search needs)
-    (λ c κs. search needs)
-    (λ c κs. search needs)
-    (λ c κs. search needs)
-    (λ c κs. search needs)
-    (λ c. search needs)
+    (λ c κs. search needs) (λ c. search needs) (λ c κs. search needs) (λ c κs. search needs) (λ c κs. search needs)
+    (λ c κs. search needs) (λ c. search needs)
     (λ c. rw (← c .before .before .before .before .before .before .before .from-number .ensures, c .before .before .before .before .before .kind .given .1, c .has-fixed-load-address .ensures, c .before .is-position-independent .ensures, c .before .before .is-static-executable .ensures, c .before .before .before .is-executable .ensures))
     (λ c. rw (← c .before .before .before .from-number .ensures, c .before .n .given .1)))

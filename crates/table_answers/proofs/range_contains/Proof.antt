@@ -11,9 +11,7 @@ pub range-contains-spec : {M : Type 1} → statement M
 range-contains-spec =
     tie.close
     (tie.spec
-    (λ c κs. search needs)
-    (λ c κs. search needs)
+    (λ c κs. search needs) (λ c κs. search needs)
     (λ c. c .contains .ensures ∙ rw (c .before .new .ensures, toZ-ofZ {w = w64} (c .before .before .before .fits .min), toZ-ofZ {w = w64} (c .before .before .before .fits .max), toZ-ofZ {w = w64} (c .before .before .before .fits .value), c .before .before .if1 .taken))
-    (λ c κs. search needs)
-    (λ c κs. search needs)
+    (λ c κs. search needs) (λ c κs. search needs)
     (λ c. c .contains2 .ensures ∙ rw (c .before .no-check .ensures, c .before .before .if1 .left)))

@@ -13,10 +13,7 @@ pub is-executable-spec : {M : Type 1} → statement M
 is-executable-spec =
     tie.close
     (tie.spec
-    (λ c. search needs)
-    (λ c. search needs)
-    (λ c. search needs)
-    (λ c. search needs)
+    (λ c. search needs) (λ c. search needs) (λ c. search needs) (λ c. search needs)
     (λ c. rw (c .enum-told .given .1) (modelled isE (λ _. true) StaticExecutable refl refl (c .enum-told .given .0 .0)))
     (λ c. rw (c .enum-told2 .given .1) (modelled isE (λ _. true) DynamicExecutable refl refl (c .enum-told2 .given .0 .0)))
     (λ c. rw (c .enum-told3 .given .1))

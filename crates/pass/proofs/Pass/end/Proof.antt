@@ -8,6 +8,6 @@ pub end-spec : {M : Type 1} → statement M
 end-spec =
     tie.close
     (tie.spec
-    (λ c. rw (c .if1 .taken) (refl, refl))
-    (λ c. rw (c .before .if1 .left, c .if2 .taken) (refl, refl))
-    (λ c. rw (c .before .if1 .left, c .if2 .left) (refl, refl)))
+    (λ c. rw (c .if1 .taken))
+    (λ c. rw (c .before .if1 .left, c .if2 .taken))
+    (λ c. rw (c .before .if1 .left, c .if2 .left)))

@@ -1,7 +1,9 @@
--- `place` meets its contract, by where the window lies.
+-- `place` meets its contract, test by test.
 -- Assumes nothing.
+use mathlib.Core.Path.{sym, _∙_}
 use borrow.Author.Needs.{needs}
-use borrow.Author.Tests.{lt-ltb, le-ltb}
+use borrow.Author.Tests.{eq-eqb, ne-eqb, lt-ltb, le-ltb}
+use Rattle.x86_64_kind.proofs.Windows.{within}
 use Rattle.pass.proofs.Pass.place.Statement.{statement}
 use Rattle.pass.proofs.Pass.place.Tie as tie
 
@@ -9,10 +11,13 @@ pub place-spec : {M : Type 1} → statement M
 place-spec =
     tie.close
     (tie.spec
-    (λ c. search needs)
-    (λ c. search needs)
-    (λ c. search needs)
-    (λ c. simp (c .before .before .before .span .given .1, lt-ltb _ _ (c .if1 .taken)))
-    (λ c. simp (c .enum-told .given .1))
-    (λ c. simp (c .enum-told2 .given .1))
-    (λ c. simp (c .before .before .before .span .given .1, le-ltb _ _ (c .if1 .left))))
+    (λ c κs. search needs)
+    (λ c. rw (← c .before .before .is-inside .ensures, c .before .if1 .taken, eq-eqb _ _ (c .if2 .taken)))
+    (λ c. let a = c .before .before .before .args in
+    within (a .window) (a .len) (a .offset) (sym (c .before .before .is-inside .ensures) ∙ c .before .if1 .taken) .0)
+    (λ c. rw (← c .before .before .before .is-inside .ensures, c .before .before .if1 .taken, ne-eqb _ _ (c .before .if2 .left), lt-ltb _ _ (c .if3 .taken)))
+    (λ c. let a = c .before .before .before .before .args in
+    let h = within (a .window) (a .len) (a .offset) (sym (c .before .before .before .is-inside .ensures) ∙ c .before .before .if1 .taken) in
+    search needs)
+    (λ c. rw (← c .before .before .before .is-inside .ensures, c .before .before .if1 .taken, ne-eqb _ _ (c .before .if2 .left), le-ltb _ _ (c .if3 .left)))
+    (λ c. rw (← c .before .is-inside .ensures, c .if1 .left)))

@@ -17,4 +17,4 @@ verdict-spec =
     (λ c κs. search needs)
     (λ c. simp (c .before .choice .given .1))
     (λ c. rw (c .before .enum-told .given .1) (c .in-order .ensures))
-    (λ c. rw (c .before .before .before .before .choice2 .given .1, ← c .before .before .span-of .ensures, ← c .before .place .ensures) (c .in-order2 .ensures)))
+    (λ c. rw (c .before .before .before .before .choice2 .given .1, ← c .before .before .claim .ensures, ← c .before .place .ensures) (c .in-order2 .ensures)))

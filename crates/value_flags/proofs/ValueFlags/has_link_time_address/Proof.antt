@@ -8,7 +8,5 @@ pub has-link-time-address-spec : {M : Type 1} → statement M
 has-link-time-address-spec =
     tie.close
     (tie.spec
-    (λ c κs. search needs)
-    (λ c κs. search needs)
-    (λ c κs. search needs)
+    (λ c κs. search needs) (λ c κs. search needs) (λ c κs. search needs)
     (λ c. rw (c .before .before .is-ifunc .ensures, c .before .is-dynamic .ensures, c .is-absolute .ensures)))

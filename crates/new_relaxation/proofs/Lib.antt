@@ -1,2 +1,0 @@
-pub mod Types
-pub mod Numbers
