@@ -28,6 +28,13 @@ extern "C" {
 #include <stdbool.h>
 #endif
 
+/* ---- The version of this header and its archive, as CHANGELOG.md has it */
+
+#define JITAMORO_VERSION "0.1.1"
+#define JITAMORO_VERSION_MAJOR 0
+#define JITAMORO_VERSION_MINOR 1
+#define JITAMORO_VERSION_PATCH 1
+
 /* ---- Numbers */
 
 /* The longest section, in bytes. */

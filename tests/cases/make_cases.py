@@ -65,6 +65,23 @@ def refusals():
     write("refusals", *zip(*rows))
 
 
+def addends():
+    """A type that keeps the addend, at its ends: the least has no magnitude among the signed numbers."""
+    ends = [-(2**63), -(2**63) + 1, -(10**18), -(10**18) + 1, -10, -9, -1, 0, 1, 9, 10, 2**31, 2**63 - 1]
+    write("addends", [record(4, "", 0, 1, 0, addend=a) for a in ends], [f"9 0 0 {a} 2 0 1 -" for a in ends])
+
+
+def longest():
+    """A section of 4,096 bytes isn't refused, and one of 4,097 is though all its bytes are there."""
+    zeros = "00" * 4094
+    rows = [
+        (record(1, zeros + "0000", 4096, 0, 0), f"none {zeros}0000"),
+        (record(35, zeros + "FF10", 4094, 0, 3), f"18 0 4094 -4 0 0 0 {zeros}6690"),
+        (record(1, zeros + "000000", 0, 0, 0), "refused 13 -"),
+    ]
+    write("longest", *zip(*rows))
+
+
 def stops():
     """10 to 13 stop reading: what follows isn't read. Each file's fault hides those that come after it."""
     good = record(1, "00", 0, 0, 0)
@@ -81,4 +98,6 @@ if __name__ == "__main__":
     worked()
     plants()
     refusals()
+    addends()
+    longest()
     stops()

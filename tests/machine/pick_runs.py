@@ -6,8 +6,8 @@ Usage: pick_runs.py cpu_vectors.txt
 In each cell (operation, source, width) the fewest vectors that a greedy search
 finds, such that every mutated rule of model.py that some vector of the cell
 tells apart is told apart by one that was picked. Only what a run shows counts:
-the destination and the flags; for branches rsp, flags, target and stack top.
-Mutations of a single register are left to the replay of all vectors.
+the destination (rsp for branches), the flags, rip and the stack top. Mutations
+of a single register are left to the replay of all vectors.
 """
 
 import sys
@@ -17,10 +17,12 @@ import model
 BRANCHES = ("call", "jmp")
 
 
+def destination(ins):
+    return model.RSP if ins.operation in BRANCHES else ins.register
+
+
 def shown(ins, outcome):
-    if ins.operation in BRANCHES:
-        return outcome.registers[model.RSP], outcome.flags, outcome.rip, outcome.top
-    return outcome.registers[ins.register], outcome.flags
+    return outcome.registers[destination(ins)], outcome.flags, outcome.rip, outcome.top
 
 
 def told_apart(mutant, vector, ins):
@@ -50,14 +52,14 @@ def pick(cell):
 
 def row(vector, ins):
     code = "".join(f"0x{byte:02X} ∷ " for byte in vector.code) + "[]"
+    register = destination(ins)
+    values = (vector.registers[register], vector.registers_after[register], vector.rip_after)
+    numbers = " ".join(f"0x{number:x}" for number in values)
+    flags = f"{vector.flags} {vector.flags_after}"
     if ins.operation in BRANCHES:
-        slot = (vector.slot, vector.contents)
-        stack = (vector.registers[model.RSP], vector.registers_after[model.RSP])
-        end = (vector.rip_after, vector.top_after)
-        numbers = " ".join(f"0x{number:x}" for number in (vector.at, *slot, *stack, *end))
-        return f"branch ({code}) {numbers} {vector.flags} {vector.flags_after}"
-    values = f"0x{vector.registers[ins.register]:x} 0x{vector.registers_after[ins.register]:x}"
-    return f"alu ({code}) 0x{vector.at:x} {ins.register} {values} {vector.flags} {vector.flags_after}"
+        slot = f"0x{vector.slot:x} 0x{vector.contents:x}"
+        return f"branch ({code}) 0x{vector.at:x} {numbers} {flags} {slot} 0x{vector.top_after:x}"
+    return f"alu ({code}) 0x{vector.at:x} {numbers} {flags} {register}"
 
 
 def main():

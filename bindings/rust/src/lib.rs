@@ -77,3 +77,6 @@ pub use value_flags::ValueFlags;
 pub use x86_64::RelaxationKind;
 pub use x86_64::RelocationModifier;
 pub use x86_64::relocation_from_raw;
+
+/// The version of this crate, of `include/jitamoro.h` (`JITAMORO_VERSION`) and of the archive.
+pub const VERSION: &str = env!("CARGO_PKG_VERSION");

@@ -7,6 +7,7 @@ mod layout;
 mod numbers;
 mod pass;
 mod refusals;
+mod version;
 mod wild_md;
 mod worked;
 

@@ -6,6 +6,7 @@ use jitamoro::Pass;
 use jitamoro::Refusal;
 use jitamoro::RelaxationKind;
 use jitamoro::Step;
+use jitamoro::sys;
 
 /// lea x@tlsgd(%rip), %rdi; call __tls_get_addr; mov y@GOTPCREL(%rip), %rbp; call *(%rax), twice
 const SECTION: &str = "66 48 8D 3D 00 00 00 00 66 66 48 E8 00 00 00 00 \
@@ -97,4 +98,47 @@ fn an_empty_window_is_no_overlap() {
     walk.relaxes(35, 23, RelaxationKind::SkipTlsDescCall, 23);
     walk.relaxes(4, 24, RelaxationKind::NoOp, 24);
     assert_eq!(walk.step(35, 24), Err(Refusal::WindowOverlap));
+}
+
+/// A step over a symbol that can't be interposed, in a static executable with a fixed address, as C sees it.
+fn raw_step(pass: sys::Pass, r_type: u32, section: &mut [u8], offset: u64) -> sys::StepAnswer {
+    sys::pass_step(pass, r_type, section, offset, 1, 0, true, 0, -4)
+}
+
+/// No two fields of one type are equal, so that none can stand in another's place.
+#[test]
+fn every_field_of_a_pass() {
+    let pass = |last, window, skip, ended| sys::Pass {
+        last,
+        window,
+        skip,
+        ended,
+    };
+    let mut section = bytes(SECTION);
+    let fresh = sys::jitamoro_pass_fresh();
+    assert_eq!(fresh, pass(0, 0, false, false));
+    let sequence = raw_step(fresh, 19, &mut section, 4);
+    assert_eq!(sequence.pass, pass(4, 12, true, false));
+    assert!(sequence.relaxed.choice.chosen && !sequence.skipped);
+    let skipped = raw_step(sequence.pass, 4, &mut section, 14);
+    assert_eq!(skipped.pass, pass(14, 12, false, false));
+    assert!(skipped.skipped);
+    let refused = sys::jitamoro_pass_end(sequence.pass);
+    assert_eq!((refused.pass, refused.refusal), (sequence.pass, 24));
+    let ended = sys::jitamoro_pass_end(skipped.pass);
+    assert_eq!((ended.pass, ended.refusal), (pass(14, 12, false, true), 0));
+    // Passes that no walk hands out: each field is read as what it is called.
+    let far = raw_step(pass(3, 1 << 40, true, false), 1, &mut section, 5);
+    assert_eq!(
+        (far.pass, far.skipped),
+        (pass(5, 1 << 40, false, false), true)
+    );
+    for (given, refusal) in [
+        (pass(1 << 40, 3, true, false), 22),
+        (pass(7, 9, false, true), 21),
+    ] {
+        let refused = raw_step(given, 1, &mut section, 5);
+        assert_eq!(refused.pass, given);
+        assert_eq!(refused.relaxed.choice.refusal, refusal);
+    }
 }

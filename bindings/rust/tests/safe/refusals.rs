@@ -40,6 +40,9 @@ fn section_too_long() {
     let record = record(35, 0, 0, 0);
     let refused = Err(Refusal::SectionTooLong);
     assert_eq!(answers(&record, &mut section), [refused; 4]);
+    // Refusal 1 comes before 2.
+    let past = crate::record(35, u64::MAX, 0, 0);
+    assert_eq!(answers(&past, &mut section), [refused; 4]);
     let zeros = [0; 4096];
     assert!(
         section

@@ -23,6 +23,7 @@ pub use linker_utils::elf::DynamicRelocationKind;
 pub use linker_utils::elf::RelocationKind;
 pub use linker_utils::elf::RelocationKindInfo;
 pub use linker_utils::elf::RelocationSize;
+pub use linker_utils::elf::Sign;
 pub use linker_utils::relaxation::RelocationModifier;
 pub use linker_utils::x86_64::RelaxationKind;
 

@@ -13,6 +13,7 @@ use differential::byte_size;
 use differential::kind_number;
 use libwild::oracle;
 use libwild::oracle::AllowedRange;
+use libwild::oracle::Sign;
 use std::process::ExitCode;
 
 const SEED: u64 = 1;
@@ -47,6 +48,7 @@ fn below() {
     KNOWN_TYPES
         .into_iter()
         .for_each(|r_type| contains(r_type, &mut random));
+    [1, 2, 4, 8].into_iter().for_each(byte_sizes);
 }
 
 fn record(fields: &[&[u8]]) {
@@ -110,6 +112,15 @@ fn lookup(r_type: u32) {
             info.implicit_addend.into(),
         ],
     ]);
+}
+
+/// The ranges of a field, signed and unsigned.
+fn byte_sizes(bytes: u8) {
+    for (number, sign) in [(0, Sign::Signed), (1, Sign::Unsigned)] {
+        let range = AllowedRange::from_byte_size(bytes.into(), sign);
+        let ends = [range.min, range.max].map(i64::to_le_bytes);
+        record(&[&[8, bytes, number], &ends.concat()]);
+    }
 }
 
 fn dynamic_type(number: u8) {

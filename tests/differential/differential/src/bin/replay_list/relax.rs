@@ -3,9 +3,9 @@
 //!
 //! | Bytes | Asked |
 //! |---|---|
-//! | 0 | 1 choosing, 2 rewriting, 3 relaxing |
-//! | 1 to 4 | type; for rewriting kind, instruction offset, 0, 0 |
-//! | 5, 6, 7 | flags, output kind, executable |
+//! | 0 | 1 choosing, 2 rewriting, 3 relaxing, 6 what a relaxation of any new type tells |
+//! | 1 to 4 | type; for rewriting kind, instruction offset, 0, 0; for 6 the new type |
+//! | 5, 6, 7 | flags, output kind, executable; for 6 kind, instruction offset, mandatory |
 //! | 8 to 31 | offset, address, addend, of 8 bytes each |
 //! | 32, 33 to 72 | the section's length, its bytes |
 //!
@@ -27,6 +27,9 @@ use differential::sequences::SEQUENCES;
 use differential::sequences::Sequence;
 use jitamoro::sys::ChoiceAnswer;
 use jitamoro::sys::RelaxedAnswer;
+use libwild::oracle;
+use libwild::oracle::RelocationKind;
+use libwild::oracle::RelocationModifier;
 
 const SEED: u64 = 1;
 const LINE_LENGTH: usize = 140;
@@ -36,6 +39,7 @@ const OFFSET: usize = 8;
 const CHOOSING: u8 = 1;
 const REWRITING: u8 = 2;
 const RELAXING: u8 = 3;
+const TELLING: u8 = 6;
 
 pub fn write() {
     let mut random = Random::new(SEED);
@@ -52,6 +56,7 @@ pub fn write() {
     refusals(&mut random);
     (0..19).for_each(|kind| rewritings(kind, &mut random));
     inst_offsets(&mut random);
+    (0..64).chain(far_types()).for_each(tells);
 }
 
 fn section_of(sequence: &Sequence, random: &mut Random) -> [u8; LONGEST] {
@@ -282,6 +287,41 @@ fn rewrite((kind, inst_offset): (u8, u8), offset: u64, addend: i64, section: &[u
         addend: moved.addend,
     };
     line(REWRITING, &record, section, &answer, &after);
+}
+
+/// A relaxation to any type, by the kinds in turn. Wild's holds the row of a known type; where there is none,
+/// nothing needs a GOT entry to fall back on.
+fn tells(new_type: u32) {
+    let kind = (new_type % 19) as u8;
+    let inst_offset = *relaxation::inst_offsets(kind).last().unwrap();
+    let modifier = relaxation::relaxation_kind(kind, inst_offset)
+        .unwrap()
+        .next_modifier();
+    let mandatory = new_type % 2 == 1;
+    let row = oracle::relocation_from_raw(new_type);
+    let answer = RelaxedAnswer {
+        choice: ChoiceAnswer {
+            chosen: true,
+            kind,
+            inst_offset,
+            mandatory,
+            skip_next: modifier == RelocationModifier::SkipNextRelocation,
+            needs_got_fallback: row.is_some_and(|row| row.kind == RelocationKind::Absolute),
+            new_type,
+            ..Default::default()
+        },
+        ..Default::default()
+    };
+    let record = Record {
+        r_type: new_type,
+        offset: 0,
+        flags: kind,
+        output_kind: inst_offset,
+        executable: mandatory,
+        address: 0,
+        addend: 0,
+    };
+    line(TELLING, &record, &[], &answer, &[]);
 }
 
 fn line(function: u8, record: &Record, before: &[u8], answer: &RelaxedAnswer, after: &[u8]) {

@@ -1,0 +1,240 @@
+/*
+ * What C sees of the library, by document 01 alone: the version, every field of a pass after a step, and the order
+ * of the refusals, with the longest section and one byte more, and the ends of the ranges.
+ */
+#define _DEFAULT_SOURCE
+#include <jitamoro.h>
+#include <stdio.h>
+#include <string.h>
+#include <sys/mman.h>
+
+static int failures;
+
+static void expect(int line, const char *what, uint64_t got, uint64_t wanted) {
+    if (got != wanted) {
+        fprintf(stderr, "interface: line %d: %s is %llu, not %llu\n", line, what, (unsigned long long)got,
+                (unsigned long long)wanted);
+        failures++;
+    }
+}
+
+#define EXPECT(what, wanted) expect(__LINE__, #what, (uint64_t)(what), (uint64_t)(wanted))
+
+/* ---- The version */
+
+#define TEXT(x) #x
+#define NUMBER(x) TEXT(x)
+
+static void version(void) {
+    const char *numbers =
+        NUMBER(JITAMORO_VERSION_MAJOR) "." NUMBER(JITAMORO_VERSION_MINOR) "." NUMBER(JITAMORO_VERSION_PATCH);
+    EXPECT(strcmp(JITAMORO_VERSION, numbers), 0);
+}
+
+/* ---- A pass's fields */
+
+static void expect_pass(int line, struct jitamoro_pass pass, uint64_t last, uint64_t window, bool skip, bool ended) {
+    expect(line, "last", pass.last, last);
+    expect(line, "window", pass.window, window);
+    expect(line, "skip", pass.skip, skip);
+    expect(line, "ended", pass.ended, ended);
+}
+
+#define EXPECT_PASS(pass, last, window, skip, ended) expect_pass(__LINE__, pass, last, window, skip, ended)
+
+static struct jitamoro_step step(struct jitamoro_pass pass, uint32_t r_type, uint64_t offset, uint8_t *section,
+                                 size_t len) {
+    return jitamoro_pass_step(pass, r_type, section, len, offset, JITAMORO_FLAG_NON_INTERPOSABLE,
+                              JITAMORO_OUTPUT_STATIC_FIXED, true, 0x401000, -4);
+}
+
+/* No two fields of one type are equal after the steps here, so that none can stand in another's place. */
+static void pass_fields(void) {
+    uint8_t section[32] = {0x66, 0x48, 0x8d, 0x3d, 0, 0, 0, 0, 0x66, 0x66, 0x48, 0xe8};
+    struct jitamoro_pass pass = jitamoro_pass_fresh();
+    EXPECT_PASS(pass, 0, 0, false, false);
+    struct jitamoro_step s = step(pass, JITAMORO_R_X86_64_TLSGD, 4, section, sizeof section);
+    EXPECT(s.skipped, false);
+    EXPECT(s.relaxed.choice.refusal, 0);
+    EXPECT(s.relaxed.choice.chosen, true);
+    EXPECT(s.relaxed.choice.kind, JITAMORO_KIND_TLS_GD_TO_LOCAL_EXEC);
+    EXPECT(s.relaxed.choice.skip_next, true);
+    EXPECT(s.relaxed.offset, 12);
+    EXPECT_PASS(s.pass, 4, 12, true, false);
+    EXPECT(jitamoro_pass_end(s.pass).refusal, JITAMORO_REFUSED_SKIP_PENDING);
+    EXPECT_PASS(jitamoro_pass_end(s.pass).pass, 4, 12, true, false);
+    s = step(s.pass, JITAMORO_R_X86_64_PLT32, 14, section, sizeof section);
+    EXPECT(s.skipped, true);
+    EXPECT_PASS(s.pass, 14, 12, false, false);
+    s = step(s.pass, JITAMORO_R_X86_64_64, 15, section, sizeof section);
+    EXPECT(s.relaxed.choice.chosen, false);
+    EXPECT_PASS(s.pass, 15, 12, false, false);
+    s = step(s.pass, JITAMORO_R_X86_64_64, 13, section, sizeof section);
+    EXPECT(s.relaxed.choice.refusal, JITAMORO_REFUSED_ORDER);
+    EXPECT_PASS(s.pass, 15, 12, false, false);
+    struct jitamoro_end end = jitamoro_pass_end(s.pass);
+    EXPECT(end.refusal, 0);
+    EXPECT_PASS(end.pass, 15, 12, false, true);
+    EXPECT(jitamoro_pass_end(end.pass).refusal, JITAMORO_REFUSED_PASS_ENDED);
+    /* Passes that no walk hands out: each field is read as what it is called. */
+    s = step((struct jitamoro_pass){.last = 3, .window = 1ull << 40, .skip = true}, 1, 5, section, sizeof section);
+    EXPECT(s.skipped, true);
+    EXPECT_PASS(s.pass, 5, 1ull << 40, false, false);
+    s = step((struct jitamoro_pass){.last = 1ull << 40, .window = 3, .skip = true}, 1, 5, section, sizeof section);
+    EXPECT(s.relaxed.choice.refusal, JITAMORO_REFUSED_ORDER);
+    EXPECT_PASS(s.pass, 1ull << 40, 3, true, false);
+    s = step((struct jitamoro_pass){.last = 7, .window = 9, .ended = true}, 1, 5, section, sizeof section);
+    EXPECT(s.relaxed.choice.refusal, JITAMORO_REFUSED_PASS_ENDED);
+    EXPECT_PASS(s.pass, 7, 9, false, true);
+}
+
+/* ---- The order of the refusals */
+
+/* Everything that is asked, with a fault for each refusal; taken away one by one, they show the order. */
+struct asked {
+    struct jitamoro_pass pass;
+    uint8_t *section;
+    size_t len;
+    uint64_t offset;
+    uint8_t flags, output_kind, kind, inst_offset;
+};
+
+/* The refusal of each function: of a step 0 too where the record is skipped. */
+static void refusals(int line, const struct asked *a, int step_, int relax_, int choose_, int apply_) {
+    struct jitamoro_step s = jitamoro_pass_step(a->pass, JITAMORO_R_X86_64_TLSDESC_CALL, a->section, a->len, a->offset,
+                                                a->flags, a->output_kind, true, 0, 0);
+    expect(line, "step", s.relaxed.choice.refusal, (uint64_t)step_);
+    if (step_ != 0) {
+        expect_pass(line, s.pass, a->pass.last, a->pass.window, a->pass.skip, a->pass.ended);
+    }
+    struct jitamoro_choice c = jitamoro_new_relaxation(JITAMORO_R_X86_64_TLSDESC_CALL, a->section, a->len, a->offset,
+                                                       a->flags, a->output_kind, true, 0, 0);
+    expect(line, "choosing", c.refusal, (uint64_t)choose_);
+    struct jitamoro_moved m = jitamoro_apply(a->kind, a->inst_offset, a->section, a->len, a->offset, 0);
+    expect(line, "rewriting", m.refusal, (uint64_t)apply_);
+    struct jitamoro_relaxed r = jitamoro_relax(JITAMORO_R_X86_64_TLSDESC_CALL, a->section, a->len, a->offset, a->flags,
+                                               a->output_kind, true, 0, 0);
+    expect(line, "relaxing", r.choice.refusal, (uint64_t)relax_);
+}
+
+#define REFUSALS(step_, relax_, choose_, apply_) refusals(__LINE__, &a, step_, relax_, choose_, apply_)
+
+static void order(void) {
+    const size_t most = JITAMORO_MAX_SECTION_LENGTH;
+    EXPECT(most, 268435456);
+    /* Pages that nobody touches take no memory. */
+    uint8_t *section = mmap(NULL, most + 1, PROT_READ | PROT_WRITE, MAP_PRIVATE | MAP_ANONYMOUS | MAP_NORESERVE, -1, 0);
+    if (section == MAP_FAILED) {
+        perror("interface: mmap");
+        failures++;
+        return;
+    }
+    struct asked a = {
+        .pass = {.last = UINT64_MAX, .window = most, .skip = true, .ended = true},
+        .section = section, .len = most + 1, .offset = UINT64_MAX - 1, .flags = 16, .output_kind = 6,
+        .kind = JITAMORO_KIND_REX_MOV_INDIRECT_TO_ABSOLUTE, .inst_offset = 5,
+    };
+    REFUSALS(21, 1, 1, 1);
+    a.pass.ended = false;
+    REFUSALS(1, 1, 1, 1);
+    a.offset = most + 2;
+    REFUSALS(1, 1, 1, 1);
+    a.offset = most + 1; /* no longer above the length */
+    REFUSALS(1, 1, 1, 1);
+    a.len = most;
+    REFUSALS(2, 2, 2, 2);
+    a.offset = UINT64_MAX - 1;
+    REFUSALS(2, 2, 2, 2);
+    a.offset = 1; /* a window from -3 on isn't inside */
+    REFUSALS(3, 3, 3, 5);
+    a.inst_offset = 3;
+    REFUSALS(3, 3, 3, 6);
+    a.offset = most - 1;
+    a.kind = JITAMORO_KIND_SKIP_TLS_DESC_CALL;
+    REFUSALS(3, 3, 3, 6);
+    a.flags = 0;
+    REFUSALS(4, 4, 4, 6);
+    a.output_kind = 3;
+    REFUSALS(22, 6, 0, 6);
+    a.pass.last = most - 1;
+    REFUSALS(0, 6, 0, 6); /* the skip */
+    a.pass.skip = false;
+    REFUSALS(6, 6, 0, 6);
+    a.offset = a.pass.last = most - 2;
+    a.kind = JITAMORO_KIND_NO_OP;
+    a.pass.window = most - 1;
+    EXPECT(section[most - 1], 0);
+    struct jitamoro_step s = step(a.pass, JITAMORO_R_X86_64_TLSDESC_CALL, a.offset, section, most);
+    EXPECT(s.relaxed.choice.refusal, 23);
+    EXPECT_PASS(s.pass, most - 2, most - 1, false, false);
+    EXPECT(section[most - 1], 0);
+    a.pass.window = most - 2;
+    REFUSALS(0, 0, 0, 0);
+    EXPECT(section[most - 2], 0x66);
+    EXPECT(section[most - 1], 0x90);
+    EXPECT(section[most], 0);
+    munmap(section, most + 1);
+}
+
+/* A section of no bytes, and the refusals of what takes no section. */
+static void others(void) {
+    uint8_t entry[JITAMORO_PLT_ENTRY_LENGTH] = {0xa5};
+    EXPECT(jitamoro_write_plt_entry(entry, 15, 1ull << 40, 0), 8);
+    EXPECT(entry[0], 0xa5);
+    EXPECT(jitamoro_write_plt_entry(entry, 16, 1ull << 40, 0), 9);
+    EXPECT(entry[0], 0xf3);
+    EXPECT(jitamoro_new_relaxation(4, NULL, 0, 1, 16, 6, true, 0, 0).refusal, 2);
+    EXPECT(jitamoro_new_relaxation(4, NULL, 0, 0, 16, 6, true, 0, 0).refusal, 3);
+    EXPECT(jitamoro_new_relaxation(4, NULL, 0, 0, 1, 6, true, 0, 0).refusal, 4);
+    EXPECT(jitamoro_new_relaxation(4, NULL, 0, 0, 1, 5, true, 0, 0).chosen, true);
+    EXPECT(jitamoro_output_kind(5).refusal, 0);
+    EXPECT(jitamoro_output_kind(6).refusal, 4);
+    EXPECT(jitamoro_value_flags(15).refusal, 0);
+    EXPECT(jitamoro_value_flags(16).refusal, 3);
+}
+
+/* ---- Ranges: both ends of a field of n bytes, for the types that have one */
+
+static void ranges(void) {
+    static const struct {
+        uint32_t r_type;
+        int64_t min, max;
+    } rows[] = {
+        {2, -2147483648, 2147483648},
+        {3, 0, 4294967296},
+        {10, 0, 4294967296},
+        {11, -2147483648, 2147483648},
+        {12, -32768, 65536},
+        {13, -32768, 32768},
+        {14, -128, 256},
+        {15, -128, 128},
+        {23, -2147483648, 2147483648},
+        {32, 0, 4294967296},
+    };
+    for (size_t i = 0; i < sizeof rows / sizeof rows[0]; i++) {
+        struct jitamoro_relocation r = jitamoro_relocation_from_raw(rows[i].r_type);
+        EXPECT(r.refusal, 0);
+        EXPECT(r.checked, true);
+        EXPECT(r.min, rows[i].min);
+        EXPECT(r.max, rows[i].max);
+        EXPECT(jitamoro_allowed_range_contains(r.checked, r.min, r.max, rows[i].min - 1), false);
+        EXPECT(jitamoro_allowed_range_contains(r.checked, r.min, r.max, rows[i].min), true);
+        EXPECT(jitamoro_allowed_range_contains(r.checked, r.min, r.max, rows[i].max - 1), true);
+        EXPECT(jitamoro_allowed_range_contains(r.checked, r.min, r.max, rows[i].max), false);
+    }
+    EXPECT(jitamoro_allowed_range_contains(false, 0, 0, INT64_MIN), true);
+    EXPECT(jitamoro_allowed_range_contains(false, 0, 0, INT64_MAX), true);
+}
+
+int main(void) {
+    version();
+    pass_fields();
+    order();
+    others();
+    ranges();
+    if (failures != 0) {
+        return 1;
+    }
+    puts("interface: the version, a pass's fields, the refusals' order and the ranges are as they should be");
+    return 0;
+}
