@@ -1,8 +1,9 @@
 -- The code's answers of choosing, rewriting, relaxing and the pass in the exported layouts, every field. Assumes nothing.
-use mathlib.Core.Bool.{Bool, true, false, cond}
+use mathlib.Core.Bool.{Bool, true, false}
 use Prim.Native.Nat.{ℕ, _+_, _*_, _%_, _^_}
 use lib.IntN.{pos}
 use Rattle.x86_64_kind.specs.Kinds.{shapeOf, skips}
+use Rattle.rules.specs.Answer.{flag}
 use Rattle.rules.specs.Choose.{needsGotFallback}
 use Rattle.elf_x86_64_relaxation.specs.declared.Relaxation.{Relaxation}
 use Rattle.elf_x86_64_relaxation.specs.declared.Choice.{Choice}
@@ -26,9 +27,6 @@ use Rattle.pass.specs.declared.End.the-variants as end
 -- none (0), or a refusal, which is below 2 ^ 8: byte 0 of the head
 abbrev pub chosenNot : ℕ → ChoiceAnswer
 chosenNot n = record { head = n % 2 ^ 8; «new_type» = 0 }
-
-abbrev pub flag : Bool → ℕ
-flag b = cond b 1 0
 
 -- bytes 4, 5, 6 of the head: mandatory, skip the next relocation, needs a GOT fallback
 abbrev pub flagBytes : Bool → Bool → Bool → ℕ

@@ -2,7 +2,8 @@
 // handed back by value.
 ghost use mathlib.Core.Path.{_≡_};
 ghost use Prim.Native.Nat.{_*_, _^_, _≤_, _<_};
-ghost use Rattle.answers.specs.Layout.{flag, flagBytes, chosenNot, chosenLayout, choiceLayout, movedLayout, relaxedNot, relaxedLayout};
+ghost use Rattle.rules.specs.Answer.{flag};
+ghost use Rattle.answers.specs.Layout.{flagBytes, chosenNot, chosenLayout, choiceLayout, movedLayout, relaxedNot, relaxedLayout};
 ghost use Rattle.answers.specs.Layout.{isSkipped, relaxedIn, stepLayout, refusalOf, endLayout};
 use elf_x86_64_relaxation::Choice;
 use elf_x86_64_relaxation::Relaxation;

@@ -11,7 +11,8 @@ use Rattle.x86_64_kind.specs.Kinds.{shapeOf, skips}
 use Rattle.relax.specs.declared.Relaxed.{Relaxed}
 use Rattle.relax.specs.declared.Relaxed.the-variants.{Nothing, Done, Refused}
 use Rattle.case_file.specs.Text.{decimalIn, decimal, signedDecimal, hexOf, hex}
-use Rattle.case_file.specs.CaseFile.{field, flag, noneWord, refusedWord, ending, line}
+use Rattle.rules.specs.Answer.{flag}
+use Rattle.case_file.specs.CaseFile.{field, noneWord, refusedWord, lineEnd, line}
 use Rattle.case_file.specs.Parts.{Bounds}
 use Rattle.case_file.proofs.Puts.{length-hexOf}
 
@@ -52,14 +53,14 @@ unfolding hex
 spelled [] = record { bound = omega arith }
 spelled (b ∷ s) = record { bound = rw (length-hexOf (b ∷ s)) (omega arith) }
 
-endings : (s : List ℕ) → Within (ending s) (2 * length s + 1 + 1)
+endings : (s : List ℕ) → Within (lineEnd s) (2 * length s + 1 + 1)
 endings s = joined (spelled s) (one 10)
 
 words : Within noneWord 5 × Within refusedWord 8
 words = (record { bound = omega arith }, record { bound = omega arith })
 
 -- with what comes before the section
-with-section : {t : List ℕ} {m : ℕ} (s : List ℕ) → m ≤ 169 → Within t m → length (t ++ ending s) ≤ 171 + 2 * length s
+with-section : {t : List ℕ} {m : ℕ} (s : List ℕ) → m ≤ 169 → Within t m → length (t ++ lineEnd s) ≤ 171 + 2 * length s
 with-section s l h = let p = joined h (endings s) .bound in omega arith
 
 line-bound : (n : ℕ) (a : Relaxed) (s : List ℕ) → length (line n a s) ≤ 171 + 2 * length s

@@ -10,7 +10,8 @@ use lib.Dec.{ltb, lit<}
 use lib.ListN.{length, take}
 use borrow.Author.Tests.{ltb-true, ltb-false}
 use Rattle.io.specs.Digits.{glyph, digits, Fewest}
-use Rattle.case_file.specs.Text.{decimalIn, decimal, Puts}
+use Rattle.case_file.specs.Text.{decimalIn, decimal}
+use Rattle.case_file.specs.Parts.{Puts}
 
 less : (k : ℕ) → suc (suc k) - 1 ≡ suc k
 less k = omega arith

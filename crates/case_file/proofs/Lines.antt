@@ -16,10 +16,9 @@ use Rattle.case_read.specs.declared.Case.{Case}
 use Rattle.case_read.specs.declared.Read.{Read}
 use Rattle.case_read.specs.declared.Read.the-variants.{End, Torn, Whole}
 use Rattle.case_file.specs.declared.Next.{Next}
-use Rattle.case_read.specs.Reading.{Standing, end, whole as whole-case, readOf, byteOf, numberOf, marked, caseAt, readAt}
-use Rattle.case_file.specs.Text.{Puts}
+use Rattle.case_read.specs.Reading.{byteOf, numberOf, marked, caseAt, readAt}
 use Rattle.case_file.specs.CaseFile.{line, lineOf, textOf, placeAfter, lines}
-use Rattle.case_file.specs.Parts.{roomFrom, PutsNext}
+use Rattle.case_file.specs.Parts.{Puts, roomFrom, PutsNext}
 use Rattle.case_file.proofs.Puts.{sets-append}
 
 -- ---- what was read
@@ -30,24 +29,20 @@ module _ (file : List ℕ) (at : ℕ) where
   Stands (Torn r) = Unit {0}
   Stands (Whole c) = (c .start ≡ at + 26) × (c .start + c .len ≤ length file) × (c .len ≤ 4096)
 
-  test : (b : Bool) (r : ℕ) (s : Answer Standing) → (b ≡ false → Stands (readOf s)) → Stands (readOf (cond b (refuses r) s))
-  test true r s h = tt
-  test false r s h = h refl
-
-  first : (b : Bool) (s : Answer Standing) → (b ≡ false → Stands (readOf s)) → Stands (readOf (cond b (gives end) s))
-  first true s h = tt
-  first false s h = h refl
+  test : (b : Bool) (r s : Read) → Stands r → (b ≡ false → Stands s) → Stands (cond b r s)
+  test true r s here h = here
+  test false r s here h = h refl
 
   -- a whole record lies within the file
   stands : Stands (readAt file at)
   unfolding readAt
   stands =
-      first (leb (length file) at) _
-      (λ e. test (ltb (length file - at) 26) 11 _
-      (λ a. test (not (marked file at)) 10 _
-      (λ m. test (ltb 1 (byteOf file at 5)) 12 _
-      (λ x. test (ltb 4096 (numberOf file at 8 2)) 13 _
-      (λ l. test (ltb (length file - at - 26) (numberOf file at 8 2)) 11 (gives (whole-case (caseAt file at)))
+      test (leb (length file) at) End _ tt
+      (λ e. test (ltb (length file - at) 26) (Torn 11) _ tt
+      (λ a. test (not (marked file at)) (Torn 10) _ tt
+      (λ m. test (ltb 1 (byteOf file at 5)) (Torn 12) _ tt
+      (λ x. test (ltb 4096 (numberOf file at 8 2)) (Torn 13) _ tt
+      (λ l. test (ltb (length file - at - 26) (numberOf file at 8 2)) (Torn 11) (Whole (caseAt file at)) tt
       (λ s. within (numberOf file at 8 2) (leb-false _ _ e) (ltb-false _ _ a) (ltb-false _ _ l) (ltb-false _ _ s)))))))
     where
       within : (len : ℕ) → at < length file → 26 ≤ length file - at → len ≤ 4096 → len ≤ length file - at - 26 → (at + 26 ≡ at + 26) × (at + 26 + len ≤ length file) × (len ≤ 4096)

@@ -8,7 +8,8 @@ use native.Mathlib.Omega.{arith}
 use lib.ListN.{length, getD, set, take, drop, length-append, length-drop, drop-of-length-le}
 use lib.Seq.{sets, sets-eq, drop-cons, drop-length, length-take-le}
 use Rattle.io.specs.Digits.{glyph}
-use Rattle.case_file.specs.Text.{hexOf, hex, Puts}
+use Rattle.case_file.specs.Text.{hexOf, hex}
+use Rattle.case_file.specs.Parts.{Puts}
 
 -- a store run of two texts
 pub sets-append : (s : List ℕ) (at : ℕ) (t u : List ℕ) → sets s at (t ++ u) ≡ sets (sets s at t) (at + length t) u

@@ -1,10 +1,10 @@
 -- Document 01, 'Case file': the text of a record's line, and of a whole file. Assumes nothing.
-use mathlib.Core.Bool.{Bool, cond}
 use mathlib.Core.List.{List, [], _∷_, _++_}
 use Prim.Native.Nat.{ℕ, zero, suc, _+_}
 use lib.ListN.{length, take, drop}
 use Rattle.x86_64_kind.specs.Kinds.{shapeOf, skips}
 use Rattle.rules.specs.declared.Relocation.{Relocation}
+use Rattle.rules.specs.Answer.{flag}
 use Rattle.rules.specs.Record.{linkLimit, relocation}
 use Rattle.rules.specs.Range.{signed64}
 use Rattle.rules.specs.Rewrite.{relaxing, afterRelaxing}
@@ -23,12 +23,9 @@ use Rattle.case_file.specs.Text.{decimal, signedDecimal, hex}
 abbrev pub field : ℕ → List ℕ
 field n = decimal n ++ (32 ∷ [])
 
-abbrev pub flag : Bool → ℕ
-flag b = cond b 1 0
-
 -- the section, and the line's end
-abbrev pub ending : List ℕ → List ℕ
-ending s = hex s ++ (10 ∷ [])
+abbrev pub lineEnd : List ℕ → List ℕ
+lineEnd s = hex s ++ (10 ∷ [])
 
 -- `none ` and `refused `
 abbrev pub noneWord : List ℕ
@@ -41,9 +38,9 @@ refusedWord = 114 ∷ 101 ∷ 102 ∷ 117 ∷ 115 ∷ 101 ∷ 100 ∷ 32 ∷ []
 -- or "-". Other lines: `N none HEX`, `N refused R HEX`": number, answer, the section then
 unfoldable pub line : ℕ → Relaxed → List ℕ → List ℕ
 line n (Done x m) s =
-    field n ++ field (shapeOf (x .kind) .number) ++ field (shapeOf (x .kind) .«inst_offset») ++ field (m .offset) ++ (signedDecimal (m .addend) ++ (32 ∷ [])) ++ field (x .«new_type») ++ field (flag (skips (x .kind))) ++ field (flag (x .mandatory)) ++ ending s
-line n Nothing s = field n ++ noneWord ++ ending s
-line n (Refused k) s = field n ++ refusedWord ++ field k ++ ending s
+    field n ++ field (shapeOf (x .kind) .number) ++ field (shapeOf (x .kind) .«inst_offset») ++ field (m .offset) ++ (signedDecimal (m .addend) ++ (32 ∷ [])) ++ field (x .«new_type») ++ field (flag (skips (x .kind))) ++ field (flag (x .mandatory)) ++ lineEnd s
+line n Nothing s = field n ++ noneWord ++ lineEnd s
+line n (Refused k) s = field n ++ refusedWord ++ field k ++ lineEnd s
 
 -- ---- a file's text
 
@@ -79,6 +76,6 @@ abbrev pub lines : List ℕ → ℕ → ℕ → ℕ → List ℕ
 lines file zero n at = []
 lines file (suc k) n at = textOf file n (readAt file at) ++ lines file k (suc n) (placeAfter file (readAt file at))
 
--- "At most 65,536 bytes are read, and the file counts as ending there"; there are no more lines than bytes
+-- "At most 65,536 bytes are read, and the file counts as lineEnd there"; there are no more lines than bytes
 unfoldable pub text : List ℕ → List ℕ
 text file = lines (take 65536 file) (length (take 65536 file)) 1 0

@@ -9,6 +9,13 @@ use Rattle.case_read.specs.declared.Read.{Read}
 use Rattle.case_file.specs.declared.Next.{Next}
 use Rattle.case_file.specs.CaseFile.{line, textOf, placeAfter}
 
+-- `new` is `old` with the text at a place, and `next` is the place after it; it takes `most` bytes or fewer
+pub record Puts (old : List ℕ) (at : ℕ) (text : List ℕ) (most : ℕ) (new : List ℕ) (next : ℕ) : Type 0 where
+  pub bytes : new ≡ sets old at text
+  pub place : next ≡ at + length text
+  pub bound : next ≤ at + most
+  pub size : length new ≡ length old
+
 -- a line takes 171 bytes at most, and two for each byte of its section; a record takes 26 and its section, so that 171 bytes, and 7 for
 -- each byte of the file that is left, are room enough
 abbrev pub roomFrom : ℕ → List ℕ → ℕ → ℕ

@@ -1,12 +1,9 @@
--- Numbers and bytes as document 01's 'Case file' writes them, in ASCII, and what it is to put a text into a buffer. Assumes nothing.
-use mathlib.Core.Path.{_≡_}
+-- Numbers and bytes as document 01's 'Case file' writes them, in ASCII. Assumes nothing.
 use mathlib.Core.Bool.{cond}
 use mathlib.Core.List.{List, [], _∷_, _++_}
-use Prim.Native.Nat.{ℕ, zero, suc, _+_, _/_, _%_, _≤_}
+use Prim.Native.Nat.{ℕ, zero, suc, _/_, _%_}
 use lib.Dec.{ltb}
 use lib.IntN.{ℤ, pos, negsuc}
-use lib.ListN.{length}
-use lib.Seq.{sets}
 use Rattle.io.specs.Digits.{glyph}
 
 -- "all other fields are decimal": the most significant digit first, with no zero in front; k digits at most, and a number of 64 bits has 20 at most
@@ -30,10 +27,3 @@ hexOf (b ∷ s) = glyph (b / 16) ∷ glyph (b % 16) ∷ hexOf s
 unfoldable pub hex : List ℕ → List ℕ
 hex [] = 45 ∷ []
 hex (b ∷ s) = hexOf (b ∷ s)
-
--- `new` is `old` with the text at a place, and `next` is the place after it; it takes `most` bytes or fewer
-pub record Puts (old : List ℕ) (at : ℕ) (text : List ℕ) (most : ℕ) (new : List ℕ) (next : ℕ) : Type 0 where
-  pub bytes : new ≡ sets old at text
-  pub place : next ≡ at + length text
-  pub bound : next ≤ at + most
-  pub size : length new ≡ length old

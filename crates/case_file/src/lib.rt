@@ -8,6 +8,7 @@ ghost use lib.ListN.{length};
 ghost use lib.IntN.{natAbs};
 ghost use lib.Signed.{nonNeg};
 ghost use lib.Seq.{sets};
+ghost use Rattle.rules.specs.Answer.{flag};
 ghost use Rattle.rules.specs.Record.{linkLimit};
 ghost use Rattle.rules.specs.Rewrite.{relaxing, afterRelaxing};
 ghost use Rattle.relax.specs.Answers.{relaxedOf};
@@ -15,10 +16,10 @@ ghost use Rattle.relax.specs.declared.Relaxed.the-variants as answer;
 ghost use Rattle.io.specs.Counts.{Counts};
 ghost use Rattle.io.specs.Digits.{glyph as Digits·glyph};
 ghost use Rattle.case_read.specs.Reading.{readAt};
-ghost use Rattle.case_file.specs.Text.{decimal, signedDecimal, hex, Puts};
-ghost use Rattle.case_file.specs.CaseFile.{field, flag, ending, line, sectionOf, recordOf, lineOf, lines, text};
+ghost use Rattle.case_file.specs.Text.{decimal, signedDecimal, hex};
+ghost use Rattle.case_file.specs.CaseFile.{field, lineEnd, line, sectionOf, recordOf, lineOf, lines, text};
 ghost use Rattle.case_file.specs.Sample.{SampleHolds};
-ghost use Rattle.case_file.specs.Parts.{roomFrom, PutsNext, Bounds};
+ghost use Rattle.case_file.specs.Parts.{Puts, roomFrom, PutsNext, Bounds};
 use case_read::Case;
 use case_read::Read;
 use elf_x86_64_relaxation::Relaxation;
@@ -97,9 +98,9 @@ fn magnitude(z: i64) -> u64
 }
 
 // The section in hexadecimal, and the line's end.
-fn put_ending(out: &mut [u8], at: usize, section: &[u8]) -> usize
+fn put_line_end(out: &mut [u8], at: usize, section: &[u8]) -> usize
     requires { ⌜ at + 2 * length (now section) + 2 ≤ length (now out) ⌝ }
-    ensures { λ r. ⌜ Puts (now (out .entry)) at (ending (now (section .entry))) (2 * length (now (section .entry)) + 2) (now (out .exit)) r ⌝ }
+    ensures { λ r. ⌜ Puts (now (out .entry)) at (lineEnd (now (section .entry))) (2 * length (now (section .entry)) + 2) (now (out .exit)) r ⌝ }
 {
     let next = put_hex(out, at, section);
     put_byte(out, next, b'\n')
@@ -155,7 +156,7 @@ fn put_none(out: &mut [u8], at: usize, number: u64, section: &[u8]) -> usize
 {
     let at1 = put_field(out, at, number);
     let at2 = put_bytes(out, at1, b"none ");
-    put_ending(out, at2, section)
+    put_line_end(out, at2, section)
 }
 
 fn put_refused(out: &mut [u8], at: usize, number: u64, refusal: u8, section: &[u8]) -> usize
@@ -165,7 +166,7 @@ fn put_refused(out: &mut [u8], at: usize, number: u64, refusal: u8, section: &[u
     let at1 = put_field(out, at, number);
     let at2 = put_bytes(out, at1, b"refused ");
     let at3 = put_field(out, at2, refusal as u64);
-    put_ending(out, at3, section)
+    put_line_end(out, at3, section)
 }
 
 // Number, kind, instruction offset, new offset, new addend, new type, skip, mandatory, section.
@@ -189,7 +190,7 @@ fn put_relaxed(
     let at6 = put_field(out, at5, relaxation.new_type as u64);
     let at7 = put_field(out, at6, as_number(relaxation.next_modifier().is_skip()));
     let at8 = put_field(out, at7, as_number(relaxation.is_mandatory()));
-    put_ending(out, at8, section)
+    put_line_end(out, at8, section)
 }
 
 fn as_number(b: bool) -> u64

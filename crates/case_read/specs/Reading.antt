@@ -4,7 +4,6 @@ use mathlib.Core.List.{List, [], _∷_}
 use Prim.Native.Nat.{ℕ, _+_, _-_, _*_}
 use lib.Dec.{eqb, leb, ltb}
 use lib.ListN.{length, getD, take, drop}
-use Rattle.rules.specs.Answer.{Answer, gives, refuses}
 use Rattle.case_read.specs.declared.Case.{Case}
 use Rattle.case_read.specs.declared.Read.{Read}
 use Rattle.case_read.specs.declared.Read.the-variants.{End, Torn, Whole}
@@ -13,17 +12,6 @@ use Rattle.case_read.specs.declared.Read.the-variants.{End, Torn, Whole}
 abbrev pub number : List ℕ → ℕ
 number [] = 0
 number (b ∷ s) = b + 256 * number s
-
--- what stands at a place: the file's end, or a record
-pub data Standing : Type 0 where
-  end : Standing
-  whole : Case → Standing
-
--- the code's `Read` for each, and for a refusal by its number
-abbrev pub readOf : Answer Standing → Read
-readOf (gives end) = End
-readOf (gives (whole c)) = Whole c
-readOf (refuses n) = Torn n
 
 module _ (file : List ℕ) (at : ℕ) where
   -- byte k of a record, and a number of w bytes there
@@ -55,10 +43,9 @@ module _ (file : List ℕ) (at : ℕ) where
   -- "File: no byte left ends it; 11 when 1 to 25 bytes remain, then 10, 12, 13, then 11 when the section bytes are short"
   unfoldable pub readAt : Read
   readAt =
-      readOf
-      (cond (leb (length file) at) (gives end)
-      (cond (ltb (length file - at) 26) (refuses 11)
-      (cond (not marked) (refuses 10)
-      (cond (ltb 1 (byteOf 5)) (refuses 12)
-      (cond (ltb 4096 (numberOf 8 2)) (refuses 13)
-      (cond (ltb (length file - at - 26) (numberOf 8 2)) (refuses 11) (gives (whole caseAt))))))))
+      cond (leb (length file) at) End
+      (cond (ltb (length file - at) 26) (Torn 11)
+      (cond (not marked) (Torn 10)
+      (cond (ltb 1 (byteOf 5)) (Torn 12)
+      (cond (ltb 4096 (numberOf 8 2)) (Torn 13)
+      (cond (ltb (length file - at - 26) (numberOf 8 2)) (Torn 11) (Whole caseAt))))))

@@ -4,15 +4,12 @@ use Prim.Native.Nat.{ℕ}
 use lib.IntN.{pos}
 use Rattle.rules.specs.Range as rules
 use Rattle.rules.specs.Range.{Range, within, unchecked, signed, unsigned}
-use Rattle.rules.specs.Types as rules-types
-use Rattle.rules.specs.Types.{Kind, Row}
+use Rattle.rules.specs.Types.{Row}
 use Rattle.elf.specs.declared.Sign.{Sign}
 use Rattle.elf.specs.declared.Sign.the-variants.{Signed, Unsigned}
 use Rattle.elf.specs.declared.ByteWidth.{ByteWidth}
 use Rattle.elf.specs.declared.ByteWidth.the-variants.{One, Two, Four, Eight}
 use Rattle.elf.specs.declared.AllowedRange.{AllowedRange}
-use Rattle.elf.specs.declared.RelocationKind.{RelocationKind}
-use Rattle.elf.specs.declared.RelocationKind.the-variants as kind
 use Rattle.elf.specs.declared.DynamicRelocationKind.{DynamicRelocationKind}
 use Rattle.elf.specs.declared.DynamicRelocationKind.the-variants as dynamic
 use Rattle.elf.specs.declared.RelocationKindInfo.{RelocationKindInfo}
@@ -36,42 +33,6 @@ rangeFrom unchecked = record { checked = false; min = pos 0; max = pos 0 }
 abbrev pub rangeOf : AllowedRange → Range
 rangeOf r = cond (r .checked) (within (r .min) (r .max)) unchecked
 
-abbrev pub relocationKindOf : RelocationKind → Kind
-relocationKindOf kind.Absolute = rules-types.Absolute
-relocationKindOf kind.SymbolSize = rules-types.SymbolSize
-relocationKindOf kind.Relative = rules-types.Relative
-relocationKindOf kind.SymRelGotBase = rules-types.SymRelGotBase
-relocationKindOf kind.GotRelGotBase = rules-types.GotRelGotBase
-relocationKindOf kind.PltRelGotBase = rules-types.PltRelGotBase
-relocationKindOf kind.PltRelative = rules-types.PltRelative
-relocationKindOf kind.GotRelative = rules-types.GotRelative
-relocationKindOf kind.TlsGd = rules-types.TlsGd
-relocationKindOf kind.TlsLd = rules-types.TlsLd
-relocationKindOf kind.DtpOff = rules-types.DtpOff
-relocationKindOf kind.GotTpOff = rules-types.GotTpOff
-relocationKindOf kind.TpOff = rules-types.TpOff
-relocationKindOf kind.TlsDesc = rules-types.TlsDesc
-relocationKindOf kind.TlsDescCall = rules-types.TlsDescCall
-relocationKindOf kind.None = rules-types.None
-
-abbrev pub relocationKindFrom : Kind → RelocationKind
-relocationKindFrom rules-types.Absolute = kind.Absolute
-relocationKindFrom rules-types.SymbolSize = kind.SymbolSize
-relocationKindFrom rules-types.Relative = kind.Relative
-relocationKindFrom rules-types.SymRelGotBase = kind.SymRelGotBase
-relocationKindFrom rules-types.GotRelGotBase = kind.GotRelGotBase
-relocationKindFrom rules-types.PltRelGotBase = kind.PltRelGotBase
-relocationKindFrom rules-types.PltRelative = kind.PltRelative
-relocationKindFrom rules-types.GotRelative = kind.GotRelative
-relocationKindFrom rules-types.TlsGd = kind.TlsGd
-relocationKindFrom rules-types.TlsLd = kind.TlsLd
-relocationKindFrom rules-types.DtpOff = kind.DtpOff
-relocationKindFrom rules-types.GotTpOff = kind.GotTpOff
-relocationKindFrom rules-types.TpOff = kind.TpOff
-relocationKindFrom rules-types.TlsDesc = kind.TlsDesc
-relocationKindFrom rules-types.TlsDescCall = kind.TlsDescCall
-relocationKindFrom rules-types.None = kind.None
-
 -- a kind's place in the Rust's order, from 0
 abbrev pub dynamicNumber : DynamicRelocationKind → ℕ
 dynamicNumber dynamic.Copy = 0
@@ -89,7 +50,7 @@ dynamicNumber dynamic.JumpSlot = 9
 abbrev pub infoFrom : Row → RelocationKindInfo
 infoFrom r =
     record {
-      kind = relocationKindFrom (r .kind);
+      kind = r .kind;
       size = record { «byte_size» = r .size };
       mask = false;
       range = rangeFrom (r .range);
@@ -98,7 +59,3 @@ infoFrom r =
       thunkable = false;
       «implicit_addend» = false;
     }
-
--- and back
-abbrev pub rowOf : RelocationKindInfo → Row
-rowOf i = record { kind = relocationKindOf (i .kind); size = i .size .«byte_size»; range = rangeOf (i .range) }

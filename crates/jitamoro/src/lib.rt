@@ -5,6 +5,7 @@ ghost use mathlib.Core.Path.{_≡_};
 ghost use mathlib.Core.Bool.{cond};
 ghost use lib.ListN.{length};
 ghost use Rattle.x86_64_kind.specs.Kinds.{skips, numbered};
+ghost use Rattle.rules.specs.Answer.{refusalOf};
 ghost use Rattle.rules.specs.Record.{linkLimit, relocation, outputKind, flagNumber};
 ghost use Rattle.rules.specs.Range.{contains, within, unchecked};
 ghost use Rattle.rules.specs.Types.{lookup, dynamicType};
@@ -19,7 +20,6 @@ ghost use Rattle.pass.specs.Pass.{freshPass};
 ghost use Rattle.pass.specs.Answers.{step, ended};
 ghost use Rattle.table_answers.specs.Layout.{outputLayout, flagsLayout, relocationLayout};
 ghost use Rattle.answers.specs.Layout.{choiceLayout, movedLayout, relaxedLayout, stepLayout, endLayout};
-ghost use Rattle.jitamoro.specs.Refusal.{refusalNumber};
 use answers::ChoiceAnswer;
 use answers::EndAnswer;
 use answers::MovedAnswer;
@@ -229,7 +229,7 @@ pub extern "C" fn jitamoro_write_plt_entry(
     got_address: u64,
     plt_address: u64,
 ) -> u8
-    ensures { λ r. ⌜ r ≡ refusalNumber (pltAnswer (now («plt_entry» .entry)) «got_address» «plt_address») ⌝ }
+    ensures { λ r. ⌜ r ≡ refusalOf (pltAnswer (now («plt_entry» .entry)) «got_address» «plt_address») ⌝ }
     ensures { λ _. ⌜ now («plt_entry» .exit) ≡ pltBytes (now («plt_entry» .entry)) «got_address» «plt_address» ⌝ }
 {
     match elf_x86_64_plt::write_plt_entry(plt_entry, got_address, plt_address) {

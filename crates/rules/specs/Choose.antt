@@ -7,11 +7,13 @@ use lib.Dec.{leb, ltb, eqb}
 use lib.ListN.{length, getD, drop}
 use lib.IntN.{ℤ, pos, negsuc}
 use lib.Bits.{bitAnd}
-use Rattle.rules.specs.Answer.{Answer, gives, refuses}
+use Rattle.rules.specs.Answer.{Answer, gives, refuses, whether}
 use Rattle.rules.specs.declared.Relocation.{Relocation}
 use Rattle.rules.specs.Record.{Limit, tooLong, past, flagsAbove, kindAbove, isN, isA, isK, isF, isS, isE, isP, ifunc}
 use Rattle.rules.specs.Range.{contains, signed64}
-use Rattle.rules.specs.Types.{Row, lookup, kindNumber, Absolute}
+use Rattle.elf_kind.specs.Kind.{kindNumber}
+use Rattle.elf_kind.specs.declared.RelocationKind.the-variants.{Absolute}
+use Rattle.rules.specs.Types.{Row, lookup}
 use Rattle.x86_64_kind.specs.declared.RelaxationKind.{RelaxationKind}
 use Rattle.x86_64_kind.specs.declared.RelaxationKind.the-variants.{MovIndirectToLea, MovIndirectToAbsolute, RexMovIndirectToAbsolute, RexAddIndirectToAbsolute}
 use Rattle.x86_64_kind.specs.declared.RelaxationKind.the-variants.{RexSubIndirectToAbsolute, RexCmpIndirectToAbsolute, CallIndirectToRelative, JmpIndirectToRelative, NoOp}
@@ -32,12 +34,8 @@ pick true c d = c
 pick false c d = d
 
 -- "the range of type t"
-abbrev pub allows : Answer Row → ℤ → Bool
-allows (gives r) v = contains (r .range) v
-allows (refuses n) v = false
-
 unfoldable pub inRange : ℕ → ℤ → Bool
-inRange t v = allows (lookup t) v
+inRange t v = whether (λ (r : Row). contains (r .range) v) (lookup t)
 
 abbrev pub isMinus4 : ℤ → Bool
 isMinus4 (pos n) = false
@@ -216,9 +214,5 @@ choosing l sec r =
     (cond (kindAbove (r .«output_kind»)) (refuses 4) (gives (choose sec r)))))
 
 -- `needs_got_fallback`: the new type's kind is Absolute
-abbrev pub isAbsolute : Answer Row → Bool
-isAbsolute (gives r) = eqb (kindNumber (r .kind)) (kindNumber Absolute)
-isAbsolute (refuses n) = false
-
 unfoldable pub needsGotFallback : ℕ → Bool
-needsGotFallback t = isAbsolute (lookup t)
+needsGotFallback t = whether (λ (r : Row). eqb (kindNumber (r .kind)) (kindNumber Absolute)) (lookup t)

@@ -80,8 +80,7 @@ setBytes a v s = record { regs = s .regs; flags = s .flags; mem = write8 (s .mem
 -- ---- the operations (SDM 2: ADD, SUB), and the flags that they set (SDM 1: 3.4.3.1)
 
 pub data Op : Type 0 where
-  add : Op
-  sub : Op
+  add sub : Op
 
 -- the result's low bits, for operands below the size
 unfoldable pub result : Op → Bool → ℕ → ℕ → ℕ
@@ -115,9 +114,7 @@ flagsAfter sub w a b r =
 
 -- where an operand comes from: the slot at next + field, the field itself, or next + field
 pub data Source : Type 0 where
-  slot : Source
-  imm : Source
-  addr : Source
+  slot imm addr : Source
 
 -- where a result goes
 pub data Target : Type 0 where

@@ -12,8 +12,10 @@ use lib.IntN.{ℤ, pos, _+ℤ_, _-ℤ_}
 use lib.ListN.{length}
 use Rattle.rules.specs.Answer.{Answer, gives, refuses}
 use Rattle.rules.specs.Range.{Range, within, signed, unsigned, minus, byteRange}
-use Rattle.rules.specs.Types.{Kind, Absolute, SymbolSize, Relative, SymRelGotBase, GotRelGotBase, PltRelGotBase, PltRelative, GotRelative}
-use Rattle.rules.specs.Types.{TlsGd, TlsLd, DtpOff, GotTpOff, TpOff, TlsDesc, TlsDescCall, None, Row, types, dynamicTypes}
+use Rattle.elf_kind.specs.declared.RelocationKind.{RelocationKind}
+use Rattle.elf_kind.specs.declared.RelocationKind.the-variants.{Absolute, SymbolSize, Relative, SymRelGotBase, GotRelGotBase, PltRelGotBase, PltRelative, GotRelative}
+use Rattle.elf_kind.specs.declared.RelocationKind.the-variants.{TlsGd, TlsLd, DtpOff, GotTpOff, TpOff, TlsDesc, TlsDescCall, None}
+use Rattle.rules.specs.Types.{Row, types, dynamicTypes}
 
 -- A the addend, B the base address, G the offset of the symbol's GOT entry, GOT the GOT's address, L the symbol's PLT entry, P the place,
 -- S the symbol, Z its size. For the thread-local types the table's column is empty; the documents that the psABI names for them (ELF
@@ -176,7 +178,7 @@ isLeftOut t = among t leftOut
 
 -- what a field of a kind holds: the value that the Rust's words at `RelocationKind` name, with the addend; for TpOff, the offset "within
 -- the executable's TLS storage" is the one from the thread pointer
-unfoldable pub holds : Kind → Sum
+unfoldable pub holds : RelocationKind → Sum
 holds Absolute = sum S ⊕ A
 holds SymbolSize = sum Z ⊕ A
 holds Relative = sum S ⊕ A ⊖ P

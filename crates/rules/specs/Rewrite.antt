@@ -1,7 +1,7 @@
 -- Document 01, 'Rewriting': the new bytes of each kind (those of `apply`), rewriting alone, relaxing, and what Filled means. Assumes nothing.
 use mathlib.Core.Path.{_≡_}
 use mathlib.Core.Bool.{Bool, cond}
-use mathlib.Core.List.{List, [], _∷_}
+use mathlib.Core.List.{List, [], _∷_, _++_}
 use Prim.Native.Nat.{ℕ, _+_, _-_, _*_, _/_, _%_, _^_, _≤_, _<_, max}
 use lib.Dec.{T, eqb}
 use lib.ListN.{length, getD}
@@ -65,33 +65,27 @@ evexToAbsolute sec at =
 
 -- mov %fs:0,%rax; lea {offset}(%rax),%rax
 abbrev pub gdToLocalExec : List ℕ
-gdToLocalExec =
-    0x64 ∷ 0x48 ∷ 0x8B ∷ 0x04 ∷ 0x25 ∷ 0 ∷ 0 ∷ 0 ∷ 0 ∷ 0x48 ∷ 0x8D ∷ 0x80 ∷ []
+gdToLocalExec = 0x64 ∷ 0x48 ∷ 0x8B ∷ 0x04 ∷ 0x25 ∷ 0 ∷ 0 ∷ 0 ∷ 0 ∷ 0x48 ∷ 0x8D ∷ 0x80 ∷ []
 
--- mov %fs:0,%rax; lea {offset}(%rax),%rax; nopw (%rax,%rax)
+-- the same, a field of 4 bytes, and nopw (%rax,%rax)
 abbrev pub gdToLocalExecLarge : List ℕ
-gdToLocalExecLarge =
-    0x64 ∷ 0x48 ∷ 0x8B ∷ 0x04 ∷ 0x25 ∷ 0 ∷ 0 ∷ 0 ∷ 0 ∷ 0x48 ∷ 0x8D ∷ 0x80 ∷ 0 ∷ 0 ∷ 0 ∷ 0 ∷ 0x66 ∷ 0x0F ∷ 0x1F ∷ 0x44 ∷ 0 ∷ 0 ∷ []
+gdToLocalExecLarge = gdToLocalExec ++ (0 ∷ 0 ∷ 0 ∷ 0 ∷ 0x66 ∷ 0x0F ∷ 0x1F ∷ 0x44 ∷ 0 ∷ 0 ∷ [])
 
 -- mov %fs:0,%rax, with prefixes
 abbrev pub ldToLocalExec : List ℕ
-ldToLocalExec =
-    0x66 ∷ 0x66 ∷ 0x66 ∷ 0x64 ∷ 0x48 ∷ 0x8B ∷ 0x04 ∷ 0x25 ∷ 0 ∷ 0 ∷ 0 ∷ 0 ∷ []
+ldToLocalExec = 0x66 ∷ 0x66 ∷ 0x66 ∷ 0x64 ∷ 0x48 ∷ 0x8B ∷ 0x04 ∷ 0x25 ∷ 0 ∷ 0 ∷ 0 ∷ 0 ∷ []
 
 -- the same, with one prefix more
 abbrev pub ldToLocalExecNoPlt : List ℕ
-ldToLocalExecNoPlt =
-    0x66 ∷ 0x66 ∷ 0x66 ∷ 0x66 ∷ 0x64 ∷ 0x48 ∷ 0x8B ∷ 0x04 ∷ 0x25 ∷ 0 ∷ 0 ∷ 0 ∷ 0 ∷ []
+ldToLocalExecNoPlt = 0x66 ∷ ldToLocalExec
 
 -- nopw (%rax,%rax); mov %fs:0,%rax
 abbrev pub ldToLocalExec64 : List ℕ
-ldToLocalExec64 =
-    0x66 ∷ 0x66 ∷ 0x66 ∷ 0x66 ∷ 0x2E ∷ 0x0F ∷ 0x1F ∷ 0x84 ∷ 0 ∷ 0 ∷ 0 ∷ 0 ∷ 0 ∷ 0x64 ∷ 0x48 ∷ 0x8B ∷ 0x04 ∷ 0x25 ∷ 0 ∷ 0 ∷ 0 ∷ 0 ∷ []
+ldToLocalExec64 = 0x66 ∷ 0x66 ∷ 0x66 ∷ 0x66 ∷ 0x2E ∷ 0x0F ∷ 0x1F ∷ 0x84 ∷ 0 ∷ 0 ∷ 0 ∷ 0 ∷ 0 ∷ 0x64 ∷ 0x48 ∷ 0x8B ∷ 0x04 ∷ 0x25 ∷ 0 ∷ 0 ∷ 0 ∷ 0 ∷ []
 
 -- mov %fs:0,%rax; add *x,%rax
 abbrev pub gdToInitialExec : List ℕ
-gdToInitialExec =
-    0x64 ∷ 0x48 ∷ 0x8B ∷ 0x04 ∷ 0x25 ∷ 0 ∷ 0 ∷ 0 ∷ 0 ∷ 0x48 ∷ 0x03 ∷ 0x05 ∷ []
+gdToInitialExec = 0x64 ∷ 0x48 ∷ 0x8B ∷ 0x04 ∷ 0x25 ∷ 0 ∷ 0 ∷ 0 ∷ 0 ∷ 0x48 ∷ 0x03 ∷ 0x05 ∷ []
 
 abbrev pub rewritten : RelaxationKind → List ℕ → ℕ → List ℕ
 rewritten MovIndirectToLea sec at = sets sec (at - 2) (0x8D ∷ [])

@@ -5,48 +5,26 @@ use Prim.Native.Nat.{ℕ, _^_}
 use lib.Dec.{eqb}
 use lib.ListN.{getD}
 use lib.IntN.{pos}
+use Rattle.elf_kind.specs.declared.RelocationKind.{RelocationKind}
+use Rattle.elf_kind.specs.declared.RelocationKind.the-variants.{Absolute, SymbolSize, Relative, SymRelGotBase, GotRelGotBase, PltRelGotBase, PltRelative, GotRelative}
+use Rattle.elf_kind.specs.declared.RelocationKind.the-variants.{TlsGd, TlsLd, DtpOff, GotTpOff, TpOff, TlsDesc, TlsDescCall, None}
 use Rattle.rules.specs.Answer.{Answer, gives, refuses}
 use Rattle.rules.specs.Range.{Range, within, unchecked, signed, unsigned, minus, byteRange}
 
--- what the field is to hold: the kinds of `RelocationKind` that x86-64 uses, in the Rust's order among these sixteen
-pub data Kind : Type 0 where
-  Absolute SymbolSize Relative SymRelGotBase GotRelGotBase PltRelGotBase : Kind
-  PltRelative GotRelative TlsGd TlsLd DtpOff GotTpOff : Kind
-  TpOff TlsDesc TlsDescCall None : Kind
-
--- a kind's place in that order, from 0: its number in the interface
-abbrev pub kindNumber : Kind → ℕ
-kindNumber Absolute = 0
-kindNumber SymbolSize = 1
-kindNumber Relative = 2
-kindNumber SymRelGotBase = 3
-kindNumber GotRelGotBase = 4
-kindNumber PltRelGotBase = 5
-kindNumber PltRelative = 6
-kindNumber GotRelative = 7
-kindNumber TlsGd = 8
-kindNumber TlsLd = 9
-kindNumber DtpOff = 10
-kindNumber GotTpOff = 11
-kindNumber TpOff = 12
-kindNumber TlsDesc = 13
-kindNumber TlsDescCall = 14
-kindNumber None = 15
-
 -- a row of the lookup; the rest of a `RelocationKindInfo` is the same in every row (`elf`'s `infoFrom`)
 pub record Row : Type 0 where
-  pub kind : Kind
+  pub kind : RelocationKind
   pub size : ℕ
   pub range : Range
 
-abbrev pub row : Kind → ℕ → Range → Row
+abbrev pub row : RelocationKind → ℕ → Range → Row
 row k n r = record { kind = k; size = n; range = r }
 
 -- a field of n bytes with the range of its width, signed or unsigned
-abbrev pub field : ℕ → Kind → Row
+abbrev pub field : ℕ → RelocationKind → Row
 field n k = row k n (byteRange n signed)
 
-abbrev pub ufield : ℕ → Kind → Row
+abbrev pub ufield : ℕ → RelocationKind → Row
 ufield n k = row k n (byteRange n unsigned)
 
 pub record Entry : Type 0 where
@@ -90,19 +68,13 @@ earlierTypes =
     ∷ (35 ⇒ field 0 TlsDescCall)
     ∷ []
 
+-- GOTPCRELX and REX_GOTPCRELX; CODE_4, CODE_5 and CODE_6 each with GOTPCRELX, GOTTPOFF and GOTPC32_TLSDESC
 unfoldable pub laterTypes : List Entry
 laterTypes =
-    (41 ⇒ field 4 GotRelative)
-    ∷ (42 ⇒ field 4 GotRelative)
-    ∷ (43 ⇒ field 4 GotRelative)
-    ∷ (44 ⇒ field 4 GotTpOff)
-    ∷ (45 ⇒ field 4 TlsDesc)
-    ∷ (46 ⇒ field 4 GotRelative)
-    ∷ (47 ⇒ field 4 GotTpOff)
-    ∷ (48 ⇒ field 4 TlsDesc)
-    ∷ (49 ⇒ field 4 GotRelative)
-    ∷ (50 ⇒ field 4 GotTpOff)
-    ∷ (51 ⇒ field 4 TlsDesc)
+    (41 ⇒ field 4 GotRelative) ∷ (42 ⇒ field 4 GotRelative)
+    ∷ (43 ⇒ field 4 GotRelative) ∷ (44 ⇒ field 4 GotTpOff) ∷ (45 ⇒ field 4 TlsDesc)
+    ∷ (46 ⇒ field 4 GotRelative) ∷ (47 ⇒ field 4 GotTpOff) ∷ (48 ⇒ field 4 TlsDesc)
+    ∷ (49 ⇒ field 4 GotRelative) ∷ (50 ⇒ field 4 GotTpOff) ∷ (51 ⇒ field 4 TlsDesc)
     ∷ []
 
 abbrev pub types : List Entry

@@ -2,10 +2,10 @@
 use mathlib.Core.Bool.{Bool, false, not}
 use Prim.Native.Nat.{ℕ}
 use lib.IntN.{pos}
-use Rattle.rules.specs.Answer.{Answer, gives, refuses}
+use Rattle.rules.specs.Answer.{Answer, refusalOf, whether}
 use Rattle.rules.specs.Record.{isE, isS, isP, isF, isK, isN, absolute, dynamic, ifunc}
-use Rattle.rules.specs.Types.{Row, kindNumber}
-use Rattle.elf.specs.Elf.{relocationKindOf}
+use Rattle.elf_kind.specs.Kind.{kindNumber}
+use Rattle.rules.specs.Types.{Row}
 use Rattle.elf.specs.declared.RelocationKindInfo.{RelocationKindInfo}
 use Rattle.x86_64_types.specs.Types.{foundOf}
 use Rattle.x86_64_types.specs.declared.RelocationFound.{RelocationFound}
@@ -14,15 +14,7 @@ use Rattle.table_answers.specs.declared.OutputKindAnswer.{OutputKindAnsw
 use Rattle.table_answers.specs.declared.ValueFlagsAnswer.{ValueFlagsAnswer}
 use Rattle.table_answers.specs.declared.RelocationAnswer.{RelocationAnswer}
 
--- the refusal, or 0; and what holds of what is given, false under a refusal
-abbrev pub refusalOf : Answer ℕ → ℕ
-refusalOf (gives k) = 0
-refusalOf (refuses n) = n
-
-abbrev pub whether : (ℕ → Bool) → Answer ℕ → Bool
-whether f (gives k) = f k
-whether f (refuses n) = false
-
+-- what holds of what is given, false under a refusal
 abbrev pub outputLayout : Answer ℕ → OutputKindAnswer
 outputLayout a =
     record {
@@ -49,7 +41,7 @@ abbrev pub infoLayout : RelocationKindInfo → RelocationAnswer
 infoLayout i =
     record {
       refusal = 0;
-      kind = kindNumber (relocationKindOf (i .kind));
+      kind = kindNumber (i .kind);
       size = i .size .«byte_size»;
       checked = i .range .checked;
       mask = i .mask;
@@ -64,19 +56,7 @@ infoLayout i =
 abbrev pub foundLayout : RelocationFound → RelocationAnswer
 foundLayout (Is i) = infoLayout i
 foundLayout (Refused n) =
-    record {
-      refusal = n;
-      kind = 0;
-      size = 0;
-      checked = false;
-      mask = false;
-      alignment = 0;
-      bias = false;
-      thunkable = false;
-      «implicit_addend» = false;
-      min = pos 0;
-      max = pos 0;
-    }
+    record { refusal = n; kind = 0; size = 0; checked = false; mask = false; alignment = 0; bias = false; thunkable = false; «implicit_addend» = false; min = pos 0; max = pos 0 }
 
 abbrev pub relocationLayout : Answer Row → RelocationAnswer
 relocationLayout a = foundLayout (foundOf a)

@@ -2,8 +2,8 @@
 use mathlib.Core.Bool.{false}
 use Rattle.rules.specs.Answer.{Answer, gives, refuses}
 use Rattle.rules.specs.Types.{Row}
-use Rattle.elf.specs.Elf.{infoFrom, rowOf}
-use Rattle.elf.specs.declared.RelocationKind.{RelocationKind}
+use Rattle.elf.specs.Elf.{infoFrom}
+use Rattle.elf_kind.specs.declared.RelocationKind.{RelocationKind}
 use Rattle.x86_64_types.specs.declared.RelocSizeAndRange.{RelocSizeAndRange}
 use Rattle.x86_64_types.specs.declared.RelocationFound.{RelocationFound}
 use Rattle.x86_64_types.specs.declared.RelocationFound.the-variants.{Is, Refused}
@@ -11,11 +11,6 @@ use Rattle.x86_64_types.specs.declared.RelocationFound.the-variants.{Is,
 abbrev pub foundOf : Answer Row → RelocationFound
 foundOf (gives r) = Is (infoFrom r)
 foundOf (refuses n) = Refused n
-
--- and back
-abbrev pub answerOf : RelocationFound → Answer Row
-answerOf (Is i) = gives (rowOf i)
-answerOf (Refused n) = refuses n
 
 -- a row with what is the same in all of them
 abbrev pub infoWith : RelocationKind → RelocSizeAndRange → RelocationFound

@@ -3,11 +3,11 @@ ghost use mathlib.Core.Path.{_≡_};
 ghost use Rattle.rules.specs.Types.{lookup, laterTypes, find};
 ghost use Rattle.rules.specs.Psabi.{Conforms, LeftOutRows};
 ghost use Rattle.rules.specs.Records.{TypesWorked};
-ghost use Rattle.x86_64_types.specs.Types.{foundOf, answerOf, infoWith};
+ghost use Rattle.x86_64_types.specs.Types.{foundOf, infoWith};
 use elf::AllowedRange;
-use elf::RelocationKind;
 use elf::RelocationKindInfo;
 use elf::RelocationSize;
+use elf_kind::RelocationKind;
 
 // A field's size with the range of its values, as constants: those of `AllowedRange::from_byte_size`
 // but for the two mixed ranges.
@@ -96,7 +96,7 @@ pub enum RelocationFound {
 // The supplied x86-64 relocation as RelocationKindInfo, or refusal 7 if the r_type isn't recognised.
 pub fn relocation_from_raw(r_type: u32) -> RelocationFound
     ensures { λ r. ⌜ r ≡ foundOf (lookup «r_type») ⌝ }
-    ensures { λ r. ⌜ Conforms «r_type» (answerOf r) ⌝ }
+    ensures { λ _. ⌜ Conforms «r_type» (lookup «r_type») ⌝ }
     ensures { λ _. ⌜ TypesWorked × LeftOutRows ⌝ }
 {
     match r_type {

@@ -18,5 +18,5 @@ put-none-spec =
     (λ c. search needs)
     (λ c κs. omega (arith, c .before .before .before .before .before .before .before .before .pre, c .before .before .before .before .put-field .ensures .bound, c .before .before .before .before .put-field .ensures .size))
     (λ c κs. omega (arith, c .before .before .before .before .before .before .before .before .before .before .before .before .pre, c .before .before .before .before .before .before .before .before .put-field .ensures .bound, c .before .before .before .before .before .before .before .before .put-field .ensures .size, c .before .before .before .put-bytes .ensures .bound, c .before .before .before .put-bytes .ensures .size))
-    (λ c. c .before .before .put-ending .ensures .size ∙ c .before .before .before .before .before .before .put-bytes .ensures .size ∙ c .before .before .before .before .before .before .before .before .before .before .before .put-field .ensures .size)
-    (λ c. puts-then _ (omega arith) (puts-then 26 (le-refl 26) (c .before .before .before .before .before .before .before .before .before .before .before .put-field .ensures) (c .before .before .before .before .before .before .put-bytes .ensures)) (c .before .before .put-ending .ensures)))
+    (λ c. c .before .before .put-line-end .ensures .size ∙ c .before .before .before .before .before .before .put-bytes .ensures .size ∙ c .before .before .before .before .before .before .before .before .before .before .before .put-field .ensures .size)
+    (λ c. puts-then _ (omega arith) (puts-then 26 (le-refl 26) (c .before .before .before .before .before .before .before .before .before .before .before .put-field .ensures) (c .before .before .before .before .before .before .put-bytes .ensures)) (c .before .before .put-line-end .ensures)))

@@ -19,5 +19,5 @@ put-refused-spec =
     (λ c κs. omega (arith, c .before .before .before .before .before .before .before .before .pre, c .before .before .before .before .put-field .ensures .bound, c .before .before .before .before .put-field .ensures .size))
     (λ c κs. omega (arith, c .before .before .before .before .before .before .before .before .before .before .before .before .pre, c .before .before .before .before .before .before .before .before .put-field .ensures .bound, c .before .before .before .before .before .before .before .before .put-field .ensures .size, c .before .before .before .put-bytes .ensures .bound, c .before .before .before .put-bytes .ensures .size))
     (λ c κs. omega (arith, c .before .before .before .before .before .before .before .before .before .before .before .before .before .before .before .before .pre, c .before .before .before .before .before .before .before .before .before .before .before .before .put-field .ensures .bound, c .before .before .before .before .before .before .before .before .before .before .before .before .put-field .ensures .size, c .before .before .before .before .before .before .before .put-bytes .ensures .bound, c .before .before .before .before .before .before .before .put-bytes .ensures .size, c .before .before .before .put-field2 .ensures .bound, c .before .before .before .put-field2 .ensures .size))
-    (λ c. c .before .before .put-ending .ensures .size ∙ c .before .before .before .before .before .before .put-field2 .ensures .size ∙ c .before .before .before .before .before .before .before .before .before .before .put-bytes .ensures .size ∙ c .before .before .before .before .before .before .before .before .before .before .before .before .before .before .before .put-field .ensures .size)
-    (λ c. puts-then _ (omega arith) (puts-then 50 (le-refl 50) (puts-then 29 (le-refl 29) (c .before .before .before .before .before .before .before .before .before .before .before .before .before .before .before .put-field .ensures) (c .before .before .before .before .before .before .before .before .before .before .put-bytes .ensures)) (c .before .before .before .before .before .before .put-field2 .ensures)) (c .before .before .put-ending .ensures)))
+    (λ c. c .before .before .put-line-end .ensures .size ∙ c .before .before .before .before .before .before .put-field2 .ensures .size ∙ c .before .before .before .before .before .before .before .before .before .before .put-bytes .ensures .size ∙ c .before .before .before .before .before .before .before .before .before .before .before .before .before .before .before .put-field .ensures .size)
+    (λ c. puts-then _ (omega arith) (puts-then 50 (le-refl 50) (puts-then 29 (le-refl 29) (c .before .before .before .before .before .before .before .before .before .before .before .before .before .before .before .put-field .ensures) (c .before .before .before .before .before .before .before .before .before .before .put-bytes .ensures)) (c .before .before .before .before .before .before .put-field2 .ensures)) (c .before .before .put-line-end .ensures)))

@@ -33,5 +33,5 @@ put-relaxed-spec =
     (λ c κs. search needs)
     (λ c κs. omega (arith, c .before .before .before .before .before .before .before .before .before .before .before .before .before .before .before .before .before .before .before .before .before .before .before .before .before .before .before .before .before .before .before .before .before .before .before .before .before .before .before .pre, c .before .before .before .before .before .before .before .before .before .before .before .before .before .before .before .before .before .before .before .before .before .before .before .before .before .before .before .before .before .before .before .before .before .before .before .put-field .ensures .bound, c .before .before .before .before .before .before .before .before .before .before .before .before .before .before .before .before .before .before .before .before .before .before .before .before .before .before .before .before .before .before .before .before .before .before .before .put-field .ensures .size, c .before .before .before .before .before .before .before .before .before .before .before .before .before .before .before .before .before .before .before .before .before .before .before .before .before .before .before .before .before .before .put-field2 .ensures .bound, c .before .before .before .before .before .before .before .before .before .before .before .before .before .before .before .before .before .before .before .before .before .before .before .before .before .before .before .before .before .before .put-field2 .ensures .size, c .before .before .before .before .before .before .before .before .before .before .before .before .before .before .before .before .before .before .before .before .before .before .before .before .before .put-field3 .ensures .bound, c .before .before .before .before .before .before .before .before .before .before .before .before .before .before .before .before .before .before .before .before .before .before .before .before .before .put-field3 .ensures .size, c .before .before .before .before .before .before .before .before .before .before .before .before .before .before .before .before .before .before .before .before .before .put-field4 .ensures .bound, c .before .before .before .before .before .before .before .before .before .before .before .before .before .before .before .before .before .before .before .before .before .put-field4 .ensures .size, c .before .before .before .before .before .before .before .before .before .before .before .before .before .before .before .before .before .put-addend .ensures .bound, c .before .before .before .before .before .before .before .before .before .before .before .before .before .before .before .before .before .put-addend .ensures .size, c .before .before .before .before .before .before .before .before .before .before .before .before .put-field5 .ensures .bound, c .before .before .before .before .before .before .before .before .before .before .before .before .put-field5 .ensures .size, c .before .before .before .before .before .put-field6 .ensures .bound, c .before .before .before .before .before .put-field6 .ensures .size))
     (λ c κs. omega (arith, c .before .before .before .before .before .before .before .before .before .before .before .before .before .before .before .before .before .before .before .before .before .before .before .before .before .before .before .before .before .before .before .before .before .before .before .before .before .before .before .before .before .before .before .pre, c .before .before .before .before .before .before .before .before .before .before .before .before .before .before .before .before .before .before .before .before .before .before .before .before .before .before .before .before .before .before .before .before .before .before .before .before .before .before .before .put-field .ensures .bound, c .before .before .before .before .before .before .before .before .before .before .before .before .before .before .before .before .before .before .before .before .before .before .before .before .before .before .before .before .before .before .before .before .before .before .before .before .before .before .before .put-field .ensures .size, c .before .before .before .before .before .before .before .before .before .before .before .before .before .before .before .before .before .before .before .before .before .before .before .before .before .before .before .before .before .before .before .before .before .before .put-field2 .ensures .bound, c .before .before .before .before .before .before .before .before .before .before .before .before .before .before .before .before .before .before .before .before .before .before .before .before .before .before .before .before .before .before .before .before .before .before .put-field2 .ensures .size, c .before .before .before .before .before .before .before .before .before .before .before .before .before .before .before .before .before .before .before .before .before .before .before .before .before .before .before .before .before .put-field3 .ensures .bound, c .before .before .before .before .before .before .before .before .before .before .before .before .before .before .before .before .before .before .before .before .before .before .before .before .before .before .before .before .before .put-field3 .ensures .size, c .before .before .before .before .before .before .before .before .before .before .before .before .before .before .before .before .before .before .before .before .before .before .before .before .before .put-field4 .ensures .bound, c .before .before .before .before .before .before .before .before .before .before .before .before .before .before .before .before .before .before .before .before .before .before .before .before .before .put-field4 .ensures .size, c .before .before .before .before .before .before .before .before .before .before .before .before .before .before .before .before .before .before .before .before .before .put-addend .ensures .bound, c .before .before .before .before .before .before .before .before .before .before .before .before .before .before .before .before .before .before .before .before .before .put-addend .ensures .size, c .before .before .before .before .before .before .before .before .before .before .before .before .before .before .before .before .put-field5 .ensures .bound, c .before .before .before .before .before .before .before .before .before .before .before .before .before .before .before .before .put-field5 .ensures .size, c .before .before .before .before .before .before .before .before .before .put-field6 .ensures .bound, c .before .before .before .before .before .before .before .before .before .put-field6 .ensures .size, c .before .before .before .put-field7 .ensures .bound, c .before .before .before .put-field7 .ensures .size))
-    (λ c. c .before .before .put-ending .ensures .size ∙ c .before .before .before .before .before .before .put-field7 .ensures .size ∙ c .before .before .before .before .before .before .before .before .before .before .before .before .put-field6 .ensures .size ∙ c .before .before .before .before .before .before .before .before .before .before .before .before .before .before .before .before .before .before .before .put-field5 .ensures .size ∙ c .before .before .before .before .before .before .before .before .before .before .before .before .before .before .before .before .before .before .before .before .before .before .before .before .put-addend .ensures .size ∙ c .before .before .before .before .before .before .before .before .before .before .before .before .before .before .before .before .before .before .before .before .before .before .before .before .before .before .before .before .put-field4 .ensures .size ∙ c .before .before .before .before .before .before .before .before .before .before .before .before .before .before .before .before .before .before .before .before .before .before .before .before .before .before .before .before .before .before .before .before .put-field3 .ensures .size ∙ c .before .before .before .before .before .before .before .before .before .before .before .before .before .before .before .before .before .before .before .before .before .before .before .before .before .before .before .before .before .before .before .before .before .before .before .before .before .put-field2 .ensures .size ∙ c .before .before .before .before .before .before .before .before .before .before .before .before .before .before .before .before .before .before .before .before .before .before .before .before .before .before .before .before .before .before .before .before .before .before .before .before .before .before .before .before .before .before .put-field .ensures .size)
-    (λ c. puts-then _ (omega arith) (puts-then 169 (le-refl 169) (puts-then 148 (le-refl 148) (puts-then 127 (le-refl 127) (puts-then 106 (le-refl 106) (puts-then 84 (le-refl 84) (puts-then 63 (le-refl 63) (puts-then 42 (le-refl 42) (c .before .before .before .before .before .before .before .before .before .before .before .before .before .before .before .before .before .before .before .before .before .before .before .before .before .before .before .before .before .before .before .before .before .before .before .before .before .before .before .before .before .before .put-field .ensures) (rw (c .before .before .before .before .before .before .before .before .before .before .before .before .before .before .before .before .before .before .before .before .before .before .before .before .before .before .before .before .before .before .before .before .before .before .before .before .before .before .number .ensures) at (c .before .before .before .before .before .before .before .before .before .before .before .before .before .before .before .before .before .before .before .before .before .before .before .before .before .before .before .before .before .before .before .before .before .before .before .before .before .put-field2 .ensures))) (rw (c .before .before .before .before .before .before .before .before .before .before .before .before .before .before .before .before .before .before .before .before .before .before .before .before .before .before .before .before .before .before .before .before .before .inst-offset .ensures) at (c .before .before .before .before .before .before .before .before .before .before .before .before .before .before .before .before .before .before .before .before .before .before .before .before .before .before .before .before .before .before .before .before .put-field3 .ensures))) (c .before .before .before .before .before .before .before .before .before .before .before .before .before .before .before .before .before .before .before .before .before .before .before .before .before .before .before .before .put-field4 .ensures)) (c .before .before .before .before .before .before .before .before .before .before .before .before .before .before .before .before .before .before .before .before .before .before .before .before .put-addend .ensures)) (c .before .before .before .before .before .before .before .before .before .before .before .before .before .before .before .before .before .before .before .put-field5 .ensures)) (rw (c .before .before .before .before .before .before .before .before .before .before .before .before .before .as-number .ensures, c .before .before .before .before .before .before .before .before .before .before .before .before .before .before .is-skip .ensures, c .before .before .before .before .before .before .before .before .before .before .before .before .before .before .before .next-modifier .ensures) at (c .before .before .before .before .before .before .before .before .before .before .before .before .put-field6 .ensures))) (rw (c .before .before .before .before .before .before .before .as-number2 .ensures, c .before .before .before .before .before .before .before .before .is-mandatory .ensures) at (c .before .before .before .before .before .before .put-field7 .ensures))) (c .before .before .put-ending .ensures)))
+    (λ c. c .before .before .put-line-end .ensures .size ∙ c .before .before .before .before .before .before .put-field7 .ensures .size ∙ c .before .before .before .before .before .before .before .before .before .before .before .before .put-field6 .ensures .size ∙ c .before .before .before .before .before .before .before .before .before .before .before .before .before .before .before .before .before .before .before .put-field5 .ensures .size ∙ c .before .before .before .before .before .before .before .before .before .before .before .before .before .before .before .before .before .before .before .before .before .before .before .before .put-addend .ensures .size ∙ c .before .before .before .before .before .before .before .before .before .before .before .before .before .before .before .before .before .before .before .before .before .before .before .before .before .before .before .before .put-field4 .ensures .size ∙ c .before .before .before .before .before .before .before .before .before .before .before .before .before .before .before .before .before .before .before .before .before .before .before .before .before .before .before .before .before .before .before .before .put-field3 .ensures .size ∙ c .before .before .before .before .before .before .before .before .before .before .before .before .before .before .before .before .before .before .before .before .before .before .before .before .before .before .before .before .before .before .before .before .before .before .before .before .before .put-field2 .ensures .size ∙ c .before .before .before .before .before .before .before .before .before .before .before .before .before .before .before .before .before .before .before .before .before .before .before .before .before .before .before .before .before .before .before .before .before .before .before .before .before .before .before .before .before .before .put-field .ensures .size)
+    (λ c. puts-then _ (omega arith) (puts-then 169 (le-refl 169) (puts-then 148 (le-refl 148) (puts-then 127 (le-refl 127) (puts-then 106 (le-refl 106) (puts-then 84 (le-refl 84) (puts-then 63 (le-refl 63) (puts-then 42 (le-refl 42) (c .before .before .before .before .before .before .before .before .before .before .before .before .before .before .before .before .before .before .before .before .before .before .before .before .before .before .before .before .before .before .before .before .before .before .before .before .before .before .before .before .before .before .put-field .ensures) (rw (c .before .before .before .before .before .before .before .before .before .before .before .before .before .before .before .before .before .before .before .before .before .before .before .before .before .before .before .before .before .before .before .before .before .before .before .before .before .before .number .ensures) at (c .before .before .before .before .before .before .before .before .before .before .before .before .before .before .before .before .before .before .before .before .before .before .before .before .before .before .before .before .before .before .before .before .before .before .before .before .before .put-field2 .ensures))) (rw (c .before .before .before .before .before .before .before .before .before .before .before .before .before .before .before .before .before .before .before .before .before .before .before .before .before .before .before .before .before .before .before .before .before .inst-offset .ensures) at (c .before .before .before .before .before .before .before .before .before .before .before .before .before .before .before .before .before .before .before .before .before .before .before .before .before .before .before .before .before .before .before .before .put-field3 .ensures))) (c .before .before .before .before .before .before .before .before .before .before .before .before .before .before .before .before .before .before .before .before .before .before .before .before .before .before .before .before .put-field4 .ensures)) (c .before .before .before .before .before .before .before .before .before .before .before .before .before .before .before .before .before .before .before .before .before .before .before .before .put-addend .ensures)) (c .before .before .before .before .before .before .before .before .before .before .before .before .before .before .before .before .before .before .before .put-field5 .ensures)) (rw (c .before .before .before .before .before .before .before .before .before .before .before .before .before .as-number .ensures, c .before .before .before .before .before .before .before .before .before .before .before .before .before .before .is-skip .ensures, c .before .before .before .before .before .before .before .before .before .before .before .before .before .before .before .next-modifier .ensures) at (c .before .before .before .before .before .before .before .before .before .before .before .before .put-field6 .ensures))) (rw (c .before .before .before .before .before .before .before .as-number2 .ensures, c .before .before .before .before .before .before .before .before .is-mandatory .ensures) at (c .before .before .before .before .before .before .put-field7 .ensures))) (c .before .before .put-line-end .ensures)))

@@ -11,15 +11,14 @@ use Rattle.rules.specs.Psabi.{Conforms, LeftOutRows}
 use Rattle.rules.specs.Records.{TypesWorked}
 use Rattle.rules.proofs.Psabi.{conforms, left-out-rows}
 use Rattle.rules.proofs.Records.{types-worked}
-use Rattle.x86_64_types.specs.Types.{foundOf, answerOf}
+use Rattle.x86_64_types.specs.Types.{foundOf}
 use Rattle.x86_64_types.specs.declared.RelocationFound.{RelocationFound}
-use Rattle.x86_64_types.proofs.Looked.{found-back}
 use Rattle.x86_64_types.proofs.Rows.{past}
 use Rattle.x86_64_types.proofs.relocation_from_raw.Statement.{statement}
 use Rattle.x86_64_types.proofs.relocation_from_raw.Tie as tie
 
-all : {t : ℕ} {r : RelocationFound} → r ≡ foundOf (lookup t) → (r ≡ foundOf (lookup t)) × (Conforms t (answerOf r) × (TypesWorked × LeftOutRows))
-all {t} e = (e, (rw (e, found-back (lookup t)) (conforms t), (types-worked, left-out-rows)))
+all : {t : ℕ} {r : RelocationFound} → r ≡ foundOf (lookup t) → (r ≡ foundOf (lookup t)) × (Conforms t (lookup t) × (TypesWorked × LeftOutRows))
+all {t} e = (e, (conforms t, (types-worked, left-out-rows)))
 
 pub relocation-from-raw-spec : {M : Type 1} → statement M
 unfolding earlierTypes byteRange lookup

@@ -1,13 +1,13 @@
--- `put_ending` meets its contract: the section, then the line's end.
+-- `put_line_end` meets its contract: the section, then the line's end.
 -- Assumes nothing.
 use Rattle.case_file.proofs.Puts.{puts-then}
 use mathlib.Core.Path.{_∙_}
 use native.Mathlib.Omega.{arith}
-use Rattle.case_file.proofs.put_ending.Statement.{statement}
-use Rattle.case_file.proofs.put_ending.Tie as tie
+use Rattle.case_file.proofs.put_line_end.Statement.{statement}
+use Rattle.case_file.proofs.put_line_end.Tie as tie
 
-pub put-ending-spec : {M : Type 1} → statement M
-put-ending-spec =
+pub put-line-end-spec : {M : Type 1} → statement M
+put-line-end-spec =
     tie.close
     (tie.spec
     (λ c κs. omega (arith, c .before .before .before .pre))
