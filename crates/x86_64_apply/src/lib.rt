@@ -1,18 +1,21 @@
 // x86_64.rs: RelaxationKind::apply.
 ghost use mathlib.Core.Path.{_≡_};
-ghost use mathlib.Core.Bool.{true};
+ghost use mathlib.Core.Bool.{cond};
 ghost use mathlib.Core.List.{[], _∷_};
 ghost use Prim.Native.Nat.{_+_, _-_, _≤_, _<_};
+ghost use lib.IntN.{pos};
 ghost use lib.ListN.{length, getD};
 ghost use lib.Seq.{sets};
-ghost use Rattle.x86_64_kind.specs.Kinds.{inside, shapeOf};
-ghost use Rattle.x86_64_kind.specs.declared.RelaxationKind.the-variants.{RexAddIndirectToLea};
+ghost use Rattle.x86_64_kind.specs.Kinds.{begin, shapeOf};
+ghost use Rattle.x86_64_kind.specs.declared.RelaxationKind.the-variants.{MovIndirectToAbsolute, RexAddIndirectToAbsolute, RexAddIndirectToLea};
 ghost use Rattle.rules.specs.Record.{linkLimit};
 ghost use Rattle.rules.specs.Rewrite.{moved, rexCopied, evexMoved, direct, based};
 ghost use Rattle.rules.specs.Rewrite.{toAbsolute, evexToAbsolute, rewritten, rewriting, afterRewriting};
 ghost use Rattle.rules.specs.Meaning.{SameMeaning};
-ghost use Rattle.x86_64_apply.specs.Apply.{appliedOf};
+ghost use Rattle.x86_64_apply.specs.declared.Applied.the-variants.{Done};
+ghost use Rattle.x86_64_apply.specs.Apply.{appliedOf, Ready, attempted};
 use x86_64_kind::RelaxationKind;
+use x86_64_kind::Shape;
 
 // Where the field lies now, and its addend.
 pub struct Moved {
@@ -45,127 +48,290 @@ pub fn apply(
     }
     let allowed = kind.is_allowed();
     if allowed {
-        let shape = kind.shape();
-        let window = shape.window;
-        let inside = window.is_inside(len, offset_in_section);
-        if inside {
-            rewrite(kind, section_bytes, offset_in_section as usize);
-            let new_offset = offset_in_section - window.back + shape.field;
-            if shape.clears {
-                return Applied::Done(Moved {
-                    offset: new_offset,
-                    addend: 0,
-                });
-            }
-            return Applied::Done(Moved {
-                offset: new_offset,
-                addend: addend,
-            });
-        }
-        return Applied::Refused(6);
+        return rewrite(kind, section_bytes, offset_in_section, addend);
     }
     Applied::Refused(5)
 }
 
-// The new bytes, by one match over the kinds as in the Rust.
-fn rewrite(kind: RelaxationKind, section_bytes: &mut [u8], offset: usize)
-    requires { ⌜ inside (shapeOf kind .window) (length (now «section_bytes»)) offset ≡ true ⌝ }
-    ensures { λ _. ⌜ now («section_bytes» .exit) ≡ rewritten kind (now («section_bytes» .entry)) offset ⌝ }
+// By one match over the kinds as in the Rust. A kind is written out where its shape is asked for, so that the
+// compiler knows the window in each arm.
+fn rewrite(kind: RelaxationKind, section_bytes: &mut [u8], offset: u64, addend: i64) -> Applied
+    requires { ⌜ (offset ≤ length (now «section_bytes»)) × (length (now «section_bytes») ≤ linkLimit .most) ⌝ }
+    ensures { λ r. ⌜ r ≡ appliedOf (attempted (shapeOf kind) (rewritten kind (now («section_bytes» .entry)) offset) (now («section_bytes» .entry)) offset addend) ⌝ }
+    ensures { λ _. ⌜ now («section_bytes» .exit) ≡ afterRewriting (now («section_bytes» .entry)) (attempted (shapeOf kind) (rewritten kind (now («section_bytes» .entry)) offset) (now («section_bytes» .entry)) offset addend) ⌝ }
 {
     match kind {
         // Since the value is an address, a PC-relative mov becomes a PC-relative lea.
-        RelaxationKind::MovIndirectToLea => {
-            section_bytes[offset - 2] = 0x8d;
-        }
-        RelaxationKind::MovIndirectToAbsolute => {
-            set_register_form(section_bytes, offset, 0xc7, 0);
-        }
-        RelaxationKind::RexMovIndirectToAbsolute(n) => {
-            set_prefixed(section_bytes, offset, n, 0xc7, 0);
-        }
+        RelaxationKind::MovIndirectToLea => replace(
+            RelaxationKind::MovIndirectToLea.shape(),
+            section_bytes,
+            offset,
+            addend,
+            b"\x8d",
+        ),
+        RelaxationKind::MovIndirectToAbsolute => mov_to_absolute(
+            RelaxationKind::MovIndirectToAbsolute.shape(),
+            section_bytes,
+            offset,
+            addend,
+        ),
+        RelaxationKind::RexMovIndirectToAbsolute(n) => to_absolute(
+            RelaxationKind::RexMovIndirectToAbsolute(3).shape(),
+            section_bytes,
+            offset,
+            addend,
+            n,
+            0xc7,
+            0,
+        ),
         RelaxationKind::RexAddIndirectToAbsolute(n) => {
             if n == 6 {
-                set_evex_add(section_bytes, offset);
-            } else {
-                set_prefixed(section_bytes, offset, n, 0x81, 0);
+                return evex_add_to_absolute(
+                    RelaxationKind::RexAddIndirectToAbsolute(6).shape(),
+                    section_bytes,
+                    offset,
+                    addend,
+                );
             }
+            to_absolute(
+                RelaxationKind::RexAddIndirectToAbsolute(3).shape(),
+                section_bytes,
+                offset,
+                addend,
+                n,
+                0x81,
+                0,
+            )
         }
-        RelaxationKind::RexAddIndirectToLea(_) => {
-            set_lea(section_bytes, offset);
-        }
-        RelaxationKind::RexSubIndirectToAbsolute(n) => {
-            set_prefixed(section_bytes, offset, n, 0x81, 5);
-        }
-        RelaxationKind::RexCmpIndirectToAbsolute(n) => {
-            set_prefixed(section_bytes, offset, n, 0x81, 7);
-        }
-        RelaxationKind::CallIndirectToRelative => {
-            write(section_bytes, offset - 2, b"\x67\xe8");
-        }
-        RelaxationKind::JmpIndirectToRelative => {
-            write(section_bytes, offset - 2, b"\xe9\x00\x00\x00\x00\x90");
-        }
+        RelaxationKind::RexAddIndirectToLea(_) => add_to_lea(
+            RelaxationKind::RexAddIndirectToLea(3).shape(),
+            section_bytes,
+            offset,
+            addend,
+        ),
+        RelaxationKind::RexSubIndirectToAbsolute(n) => to_absolute(
+            RelaxationKind::RexSubIndirectToAbsolute(3).shape(),
+            section_bytes,
+            offset,
+            addend,
+            n,
+            0x81,
+            5,
+        ),
+        RelaxationKind::RexCmpIndirectToAbsolute(n) => to_absolute(
+            RelaxationKind::RexCmpIndirectToAbsolute(3).shape(),
+            section_bytes,
+            offset,
+            addend,
+            n,
+            0x81,
+            7,
+        ),
+        RelaxationKind::CallIndirectToRelative => replace(
+            RelaxationKind::CallIndirectToRelative.shape(),
+            section_bytes,
+            offset,
+            addend,
+            b"\x67\xe8",
+        ),
+        RelaxationKind::JmpIndirectToRelative => replace(
+            RelaxationKind::JmpIndirectToRelative.shape(),
+            section_bytes,
+            offset,
+            addend,
+            b"\xe9\x00\x00\x00\x00\x90",
+        ),
         // mov %fs:0,%rax; lea {offset}(%rax),%rax
-        RelaxationKind::TlsGdToLocalExec => {
-            write(
-                section_bytes,
-                offset - 4,
-                b"\x64\x48\x8b\x04\x25\x00\x00\x00\x00\x48\x8d\x80",
-            );
-        }
+        RelaxationKind::TlsGdToLocalExec => replace(
+            RelaxationKind::TlsGdToLocalExec.shape(),
+            section_bytes,
+            offset,
+            addend,
+            b"\x64\x48\x8b\x04\x25\x00\x00\x00\x00\x48\x8d\x80",
+        ),
         // mov %fs:0,%rax; lea {offset}(%rax),%rax; nopw (%rax,%rax)
-        RelaxationKind::TlsGdToLocalExecLarge => {
-            write(
-                section_bytes,
-                offset - 3,
-                b"\x64\x48\x8b\x04\x25\x00\x00\x00\x00\x48\x8d\x80\x00\x00\x00\x00\x66\x0f\x1f\x44\x00\x00",
-            );
-        }
+        RelaxationKind::TlsGdToLocalExecLarge => replace(
+            RelaxationKind::TlsGdToLocalExecLarge.shape(),
+            section_bytes,
+            offset,
+            addend,
+            b"\x64\x48\x8b\x04\x25\x00\x00\x00\x00\x48\x8d\x80\x00\x00\x00\x00\x66\x0f\x1f\x44\x00\x00",
+        ),
         // mov %fs:0,%rax; add *x,%rax
-        RelaxationKind::TlsGdToInitialExec => {
-            write(
-                section_bytes,
-                offset - 4,
-                b"\x64\x48\x8b\x04\x25\x00\x00\x00\x00\x48\x03\x05",
-            );
-        }
+        RelaxationKind::TlsGdToInitialExec => replace(
+            RelaxationKind::TlsGdToInitialExec.shape(),
+            section_bytes,
+            offset,
+            addend,
+            b"\x64\x48\x8b\x04\x25\x00\x00\x00\x00\x48\x03\x05",
+        ),
         // mov %fs:0,%rax
-        RelaxationKind::TlsLdToLocalExec => {
-            write(
-                section_bytes,
-                offset - 3,
-                b"\x66\x66\x66\x64\x48\x8b\x04\x25\x00\x00\x00\x00",
-            );
-        }
+        RelaxationKind::TlsLdToLocalExec => replace(
+            RelaxationKind::TlsLdToLocalExec.shape(),
+            section_bytes,
+            offset,
+            addend,
+            b"\x66\x66\x66\x64\x48\x8b\x04\x25\x00\x00\x00\x00",
+        ),
         // mov %fs:0,%rax
-        RelaxationKind::TlsLdToLocalExecNoPlt => {
-            write(
-                section_bytes,
-                offset - 3,
-                b"\x66\x66\x66\x66\x64\x48\x8b\x04\x25\x00\x00\x00\x00",
-            );
-        }
+        RelaxationKind::TlsLdToLocalExecNoPlt => replace(
+            RelaxationKind::TlsLdToLocalExecNoPlt.shape(),
+            section_bytes,
+            offset,
+            addend,
+            b"\x66\x66\x66\x66\x64\x48\x8b\x04\x25\x00\x00\x00\x00",
+        ),
         // nopw (%rax,%rax); mov %fs:0,%rax
-        RelaxationKind::TlsLdToLocalExec64 => {
-            write(
-                section_bytes,
-                offset - 3,
-                b"\x66\x66\x66\x66\x2e\x0f\x1f\x84\x00\x00\x00\x00\x00\x64\x48\x8b\x04\x25\x00\x00\x00\x00",
-            );
-        }
-        RelaxationKind::TlsDescToLocalExec(n) => {
-            set_prefixed(section_bytes, offset, n, 0xc7, 0);
-        }
+        RelaxationKind::TlsLdToLocalExec64 => replace(
+            RelaxationKind::TlsLdToLocalExec64.shape(),
+            section_bytes,
+            offset,
+            addend,
+            b"\x66\x66\x66\x66\x2e\x0f\x1f\x84\x00\x00\x00\x00\x00\x64\x48\x8b\x04\x25\x00\x00\x00\x00",
+        ),
+        RelaxationKind::TlsDescToLocalExec(n) => to_absolute(
+            RelaxationKind::TlsDescToLocalExec(3).shape(),
+            section_bytes,
+            offset,
+            addend,
+            n,
+            0xc7,
+            0,
+        ),
         // lea becomes mov, with the same prefix and addressing mode.
-        RelaxationKind::TlsDescToInitialExec => {
-            section_bytes[offset - 2] = 0x8b;
-        }
+        RelaxationKind::TlsDescToInitialExec => replace(
+            RelaxationKind::TlsDescToInitialExec.shape(),
+            section_bytes,
+            offset,
+            addend,
+            b"\x8b",
+        ),
         // xchg %ax,%ax
-        RelaxationKind::SkipTlsDescCall => {
-            write(section_bytes, offset, b"\x66\x90");
-        }
-        RelaxationKind::NoOp => {}
+        RelaxationKind::SkipTlsDescCall => replace(
+            RelaxationKind::SkipTlsDescCall.shape(),
+            section_bytes,
+            offset,
+            addend,
+            b"\x66\x90",
+        ),
+        RelaxationKind::NoOp => replace(
+            RelaxationKind::NoOp.shape(),
+            section_bytes,
+            offset,
+            addend,
+            b"",
+        ),
     }
+}
+
+// ---- The writers: where the window lies inside, the new bytes; otherwise refusal 6
+
+// A fixed byte string, at the window's begin.
+fn replace(
+    shape: Shape,
+    section_bytes: &mut [u8],
+    offset: u64,
+    addend: i64,
+    fixed: &[u8],
+) -> Applied
+    requires { ⌜ Ready shape (now «section_bytes») offset × (length (now fixed) ≡ shape .window .size) ⌝ }
+    ensures { λ r. ⌜ r ≡ appliedOf (attempted shape (sets (now («section_bytes» .entry)) (begin (shape .window) offset) (now (fixed .entry))) (now («section_bytes» .entry)) offset addend) ⌝ }
+    ensures { λ _. ⌜ now («section_bytes» .exit) ≡ afterRewriting (now («section_bytes» .entry)) (attempted shape (sets (now («section_bytes» .entry)) (begin (shape .window) offset) (now (fixed .entry))) (now («section_bytes» .entry)) offset addend) ⌝ }
+{
+    let window = shape.window;
+    let inside = window.is_inside(section_bytes.len() as u64, offset);
+    if inside {
+        write(section_bytes, (offset - window.back) as usize, fixed);
+        return place(shape, offset, addend);
+    }
+    Applied::Refused(6)
+}
+
+// An opcode and its ModRM byte in register form.
+fn mov_to_absolute(shape: Shape, section_bytes: &mut [u8], offset: u64, addend: i64) -> Applied
+    requires { ⌜ Ready shape (now «section_bytes») offset × (2 ≤ shape .window .back) × (shape .window .back ≤ shape .window .size) ⌝ }
+    ensures { λ r. ⌜ r ≡ appliedOf (attempted shape (rewritten MovIndirectToAbsolute (now («section_bytes» .entry)) offset) (now («section_bytes» .entry)) offset addend) ⌝ }
+    ensures { λ _. ⌜ now («section_bytes» .exit) ≡ afterRewriting (now («section_bytes» .entry)) (attempted shape (rewritten MovIndirectToAbsolute (now («section_bytes» .entry)) offset) (now («section_bytes» .entry)) offset addend) ⌝ }
+{
+    let window = shape.window;
+    let inside = window.is_inside(section_bytes.len() as u64, offset);
+    if inside {
+        set_register_form(section_bytes, offset as usize, 0xc7, 0);
+        return place(shape, offset, addend);
+    }
+    Applied::Refused(6)
+}
+
+// The same after a REX or REX2 prefix.
+fn to_absolute(
+    shape: Shape,
+    section_bytes: &mut [u8],
+    offset: u64,
+    addend: i64,
+    inst_offset: u8,
+    opcode: u8,
+    digit: u8,
+) -> Applied
+    requires { ⌜ Ready shape (now «section_bytes») offset × (3 ≤ shape .window .back) × (shape .window .back ≤ shape .window .size) × (digit < 8) ⌝ }
+    ensures { λ r. ⌜ r ≡ appliedOf (attempted shape (toAbsolute «inst_offset» opcode digit (now («section_bytes» .entry)) offset) (now («section_bytes» .entry)) offset addend) ⌝ }
+    ensures { λ _. ⌜ now («section_bytes» .exit) ≡ afterRewriting (now («section_bytes» .entry)) (attempted shape (toAbsolute «inst_offset» opcode digit (now («section_bytes» .entry)) offset) (now («section_bytes» .entry)) offset addend) ⌝ }
+{
+    let window = shape.window;
+    let inside = window.is_inside(section_bytes.len() as u64, offset);
+    if inside {
+        set_prefixed(section_bytes, offset as usize, inst_offset, opcode, digit);
+        return place(shape, offset, addend);
+    }
+    Applied::Refused(6)
+}
+
+// The same after an EVEX prefix: add.
+fn evex_add_to_absolute(shape: Shape, section_bytes: &mut [u8], offset: u64, addend: i64) -> Applied
+    requires { ⌜ Ready shape (now «section_bytes») offset × (5 ≤ shape .window .back) × (shape .window .back ≤ shape .window .size) ⌝ }
+    ensures { λ r. ⌜ r ≡ appliedOf (attempted shape (evexToAbsolute (now («section_bytes» .entry)) offset) (now («section_bytes» .entry)) offset addend) ⌝ }
+    ensures { λ _. ⌜ now («section_bytes» .exit) ≡ afterRewriting (now («section_bytes» .entry)) (attempted shape (evexToAbsolute (now («section_bytes» .entry)) offset) (now («section_bytes» .entry)) offset addend) ⌝ }
+{
+    let window = shape.window;
+    let inside = window.is_inside(section_bytes.len() as u64, offset);
+    if inside {
+        set_evex_add(section_bytes, offset as usize);
+        return place(shape, offset, addend);
+    }
+    Applied::Refused(6)
+}
+
+// lea, with the register as its base too.
+fn add_to_lea(shape: Shape, section_bytes: &mut [u8], offset: u64, addend: i64) -> Applied
+    requires { ⌜ Ready shape (now «section_bytes») offset × (3 ≤ shape .window .back) × (shape .window .back ≤ shape .window .size) ⌝ }
+    ensures { λ r. ⌜ r ≡ appliedOf (attempted shape (rewritten (RexAddIndirectToLea 3) (now («section_bytes» .entry)) offset) (now («section_bytes» .entry)) offset addend) ⌝ }
+    ensures { λ _. ⌜ now («section_bytes» .exit) ≡ afterRewriting (now («section_bytes» .entry)) (attempted shape (rewritten (RexAddIndirectToLea 3) (now («section_bytes» .entry)) offset) (now («section_bytes» .entry)) offset addend) ⌝ }
+{
+    let window = shape.window;
+    let inside = window.is_inside(section_bytes.len() as u64, offset);
+    if inside {
+        set_lea(section_bytes, offset as usize);
+        return place(shape, offset, addend);
+    }
+    Applied::Refused(6)
+}
+
+// Where the field lies then, and its addend.
+fn place(shape: Shape, offset: u64, addend: i64) -> Applied
+    requires { ⌜ (shape .window .back ≤ offset) × (offset ≤ 268435456) × (shape .field ≤ 18) ⌝ }
+    ensures { λ r. ⌜ r ≡ Done (record { offset = begin (shape .window) offset + shape .field; addend = cond (shape .clears) (pos 0) addend }) ⌝ }
+{
+    let window = shape.window;
+    let new_offset = offset - window.back + shape.field;
+    if shape.clears {
+        return Applied::Done(Moved {
+            offset: new_offset,
+            addend: 0,
+        });
+    }
+    Applied::Done(Moved {
+        offset: new_offset,
+        addend: addend,
+    })
 }
 
 // ---- An operand
