@@ -1,0 +1,15 @@
+-- `jitamoro_new_relaxation` meets its contract: what was chosen, laid out.
+-- Assumes nothing.
+use mir.Facts.{toZ-ofZ}
+use mir.Syntax.{w64}
+use borrow.Author.Needs.{needs}
+use Rattle.jitamoro_new_relaxation.proofs.jitamoro_new_relaxation.Statement.{statement}
+use Rattle.jitamoro_new_relaxation.proofs.jitamoro_new_relaxation.Tie as tie
+
+pub jitamoro-new-relaxation-spec : {M : Type 1} → statement M
+jitamoro-new-relaxation-spec =
+    tie.close
+    (tie.spec
+    (λ c κs. search needs)
+    (λ c κs. search needs)
+    (λ c. rw (rw (toZ-ofZ {w = w64} (c .before .before .before .fits .addend)) at (c .before .new-relaxation .ensures)) at (c .choice-answer .ensures)))

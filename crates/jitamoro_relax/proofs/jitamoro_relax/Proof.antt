@@ -1,0 +1,17 @@
+-- `jitamoro_relax` meets its contract: what relaxing answered, laid out.
+-- Assumes nothing.
+use mir.Facts.{toZ-ofZ}
+use mir.Syntax.{w64}
+use borrow.Author.Needs.{needs}
+use Rattle.jitamoro_relax.proofs.jitamoro_relax.Statement.{statement}
+use Rattle.jitamoro_relax.proofs.jitamoro_relax.Tie as tie
+
+pub jitamoro-relax-spec : {M : Type 1} → statement M
+jitamoro-relax-spec =
+    tie.close
+    (tie.spec
+    (λ c κs. search needs)
+    (λ c κs. search needs)
+    (λ c. search needs)
+    (λ c. let e = rw (toZ-ofZ {w = w64} (c .before .before .before .before .before .before .fits .addend)) at (c .before .before .before .relax .ensures) in
+    (rw (e .0) at (c .relaxed-answer .ensures), e .1)))
