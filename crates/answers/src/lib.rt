@@ -1,17 +1,10 @@
-// What choosing, rewriting, relaxing and the pass answer, in the layout of the exported functions. The pass itself is
-// handed back by value.
+// What choosing, rewriting and relaxing answer, in the layout of the exported functions.
 ghost use mathlib.Core.Path.{_≡_};
 ghost use Prim.Native.Nat.{_*_, _^_, _≤_, _<_};
 ghost use Rattle.rules.specs.Answer.{flag};
 ghost use Rattle.answers.specs.Layout.{flagBytes, chosenNot, chosenLayout, choiceLayout, movedLayout, relaxedNot, relaxedLayout};
-ghost use Rattle.answers.specs.Layout.{isSkipped, relaxedIn, stepLayout, refusalOf, endLayout};
 use elf_x86_64_relaxation::Choice;
 use elf_x86_64_relaxation::Relaxation;
-use pass::End;
-use pass::Ended;
-use pass::Pass;
-use pass::Step;
-use pass::Stepped;
 use relax::Relaxed;
 use x86_64_apply::Applied;
 
@@ -139,74 +132,4 @@ fn wide(x: u8) -> u64
     ensures { λ r. ⌜ r < 2 ^ 8 ⌝ }
 {
     x as u64
-}
-
-// ---- The pass
-
-// The pass then, whether the record was skipped, and what relaxing answered. A refusal stands in `relaxed`.
-#[repr(C)]
-pub struct StepAnswer {
-    pub pass: Pass,
-    pub skipped: bool,
-    pub relaxed: RelaxedAnswer,
-}
-
-#[repr(C)]
-pub struct EndAnswer {
-    pub pass: Pass,
-    pub refusal: u8,
-}
-
-pub fn step_answer(stepped: Stepped) -> StepAnswer
-    ensures { λ r. ⌜ r ≡ stepLayout stepped ⌝ }
-{
-    let after = stepped.pass;
-    let step = stepped.step;
-    StepAnswer {
-        pass: after,
-        skipped: is_skipped(step),
-        relaxed: relaxed_answer(relaxed_in(step)),
-    }
-}
-
-pub fn end_answer(ended: Ended) -> EndAnswer
-    ensures { λ r. ⌜ r ≡ endLayout ended ⌝ }
-{
-    let after = ended.pass;
-    let end = ended.end;
-    EndAnswer {
-        pass: after,
-        refusal: refusal_of(end),
-    }
-}
-
-fn is_skipped(step: Step) -> bool
-    ensures { λ r. ⌜ r ≡ isSkipped step ⌝ }
-{
-    match step {
-        Step::Nothing => false,
-        Step::Done(_, _) => false,
-        Step::Skipped => true,
-        Step::Refused(_) => false,
-    }
-}
-
-fn relaxed_in(step: Step) -> Relaxed
-    ensures { λ r. ⌜ r ≡ relaxedIn step ⌝ }
-{
-    match step {
-        Step::Nothing => Relaxed::Nothing,
-        Step::Done(relaxation, moved) => Relaxed::Done(relaxation, moved),
-        Step::Skipped => Relaxed::Nothing,
-        Step::Refused(n) => Relaxed::Refused(n),
-    }
-}
-
-fn refusal_of(end: End) -> u8
-    ensures { λ r. ⌜ r ≡ refusalOf end ⌝ }
-{
-    match end {
-        End::Granted => 0,
-        End::Refused(n) => n,
-    }
 }

@@ -6,6 +6,7 @@ ghost use Rattle.rules.specs.Choose.{choosing};
 ghost use Rattle.elf_x86_64_relaxation.specs.Choices.{choiceOf};
 ghost use Rattle.answers.specs.Layout.{choiceLayout};
 use answers::ChoiceAnswer;
+use plain::Plain;
 use rules::Relocation;
 
 // Chooses a relaxation for one record. Refusals 1, 2, 3, 4.
@@ -22,17 +23,19 @@ pub extern "C" fn jitamoro_new_relaxation(
 ) -> ChoiceAnswer
     ensures { λ r. ⌜ r ≡ choiceLayout (choiceOf (choosing linkLimit (now (section .entry)) (relocation «r_type» offset flags «output_kind» executable address addend))) ⌝ }
 {
-    let choice = quick::new_relaxation(
-        section,
-        Relocation {
-            r_type,
-            offset,
-            flags,
-            output_kind,
-            executable,
-            address,
-            addend,
-        },
-    );
-    answers::choice_answer(choice)
+    let rel = Relocation {
+        r_type,
+        offset,
+        flags,
+        output_kind,
+        executable,
+        address,
+        addend,
+    };
+    match plain::settle(section, rel) {
+        Plain::Settled(answer) => answer.choice,
+        Plain::Other => {
+            answers::choice_answer(elf_x86_64_new_relaxation::new_relaxation(section, rel))
+        }
+    }
 }

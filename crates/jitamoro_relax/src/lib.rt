@@ -7,6 +7,7 @@ ghost use Rattle.rules.specs.Meaning.{SameMeaning};
 ghost use Rattle.relax.specs.Answers.{relaxedOf};
 ghost use Rattle.answers.specs.Layout.{relaxedLayout};
 use answers::RelaxedAnswer;
+use plain::Plain;
 use rules::Relocation;
 
 // Relaxes one record in its section. Refusals 1, 2, 3, 4, 6.
@@ -25,17 +26,17 @@ pub extern "C" fn jitamoro_relax(
     ensures { λ _. ⌜ now (section .exit) ≡ afterRelaxing (now (section .entry)) (relaxing linkLimit (now (section .entry)) (relocation «r_type» offset flags «output_kind» executable address addend)) ⌝ }
     ensures { λ _. ⌜ SameMeaning (now (section .entry)) ⌝ }
 {
-    let relaxed = quick::relax(
-        section,
-        Relocation {
-            r_type,
-            offset,
-            flags,
-            output_kind,
-            executable,
-            address,
-            addend,
-        },
-    );
-    answers::relaxed_answer(relaxed)
+    let rel = Relocation {
+        r_type,
+        offset,
+        flags,
+        output_kind,
+        executable,
+        address,
+        addend,
+    };
+    match plain::settle(section, rel) {
+        Plain::Settled(answer) => answer,
+        Plain::Other => answers::relaxed_answer(relax::relax(section, rel)),
+    }
 }
