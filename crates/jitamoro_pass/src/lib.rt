@@ -1,28 +1,57 @@
-// Exported to C and Rust: the pass. include/jitamoro.h says the same in C. It takes any arguments; a slice is passed as
-// a pointer and a length.
+// Exported to C and Rust: the pass, which the caller holds in place. include/jitamoro.h says the same in C. The functions
+// take any arguments; a slice is passed as a pointer and a length.
 ghost use mathlib.Core.Path.{_≡_};
+ghost use mathlib.Core.Bool.{false};
+ghost use mathlib.Core.List.{[], _∷_};
+ghost use Rattle.rules.specs.Answer.{refusalOf};
 ghost use Rattle.rules.specs.Record.{relocation};
 ghost use Rattle.rules.specs.Meaning.{SameMeaning};
-ghost use Rattle.pass.specs.Pass.{freshPass};
-ghost use Rattle.pass.specs.Answers.{step, ended};
-ghost use Rattle.answers.specs.Layout.{stepLayout, endLayout};
-use answers::EndAnswer;
-use answers::StepAnswer;
+ghost use Rattle.answers.specs.Layout.{relaxedLayout};
+ghost use Rattle.pass.specs.Pass.{freshPass, ending};
+ghost use Rattle.pass.specs.Answers.{step};
+ghost use Rattle.jitamoro_pass.specs.Layout.{passOf, written, calm, at, wordsAfter, stepLayout, wordsEnded};
+use answers::RelaxedAnswer;
+use pass::End;
 use pass::Pass;
+use pass::Step;
+use pass::Stepped;
+use plain::Plain;
+use relax::Relaxed;
 use rules::Relocation;
+
+// Last offset, end of the last window, pending, ended: the caller's four words.
+#[repr(C)]
+pub struct PassWords {
+    pub last: u64,
+    pub window: u64,
+    pub pending: u64,
+    pub ended: u64,
+}
+
+// Whether the record was skipped, and what relaxing answered. A refusal stands in `relaxed`.
+#[repr(C)]
+pub struct StepAnswer {
+    pub skipped: bool,
+    pub relaxed: RelaxedAnswer,
+}
 
 // A pass before its first record.
 #[no_mangle]
-pub extern "C" fn jitamoro_pass_fresh() -> Pass
-    ensures { λ r. ⌜ r ≡ freshPass ⌝ }
+pub extern "C" fn jitamoro_pass_fresh() -> PassWords
+    ensures { λ r. ⌜ passOf (r .last ∷ r .window ∷ r .pending ∷ r .ended ∷ []) ≡ freshPass ⌝ }
 {
-    Pass::fresh()
+    PassWords {
+        last: 0,
+        window: 0,
+        pending: 0,
+        ended: 0,
+    }
 }
 
 // Takes one record. Refusals 21, 1, 2, 3, 4, 22, 6, 23, which change nothing.
 #[no_mangle]
 pub extern "C" fn jitamoro_pass_step(
-    pass: Pass,
+    pass: &mut [u64; 4],
     r_type: u32,
     section: &mut [u8],
     offset: u64,
@@ -32,29 +61,128 @@ pub extern "C" fn jitamoro_pass_step(
     address: u64,
     addend: i64,
 ) -> StepAnswer
-    ensures { λ r. ⌜ r ≡ stepLayout (step pass (now (section .entry)) (relocation «r_type» offset flags «output_kind» executable address addend) .stepped) ⌝ }
-    ensures { λ _. ⌜ now (section .exit) ≡ step pass (now (section .entry)) (relocation «r_type» offset flags «output_kind» executable address addend) .section ⌝ }
+    ensures { λ r. ⌜ r ≡ stepLayout (step (passOf (now (pass .entry))) (now (section .entry)) (relocation «r_type» offset flags «output_kind» executable address addend) .stepped .step) ⌝ }
+    ensures { λ _. ⌜ now (pass .exit) ≡ wordsAfter (now (pass .entry)) (step (passOf (now (pass .entry))) (now (section .entry)) (relocation «r_type» offset flags «output_kind» executable address addend) .stepped) ⌝ }
+    ensures { λ _. ⌜ now (section .exit) ≡ step (passOf (now (pass .entry))) (now (section .entry)) (relocation «r_type» offset flags «output_kind» executable address addend) .section ⌝ }
     ensures { λ _. ⌜ SameMeaning (now (section .entry)) ⌝ }
 {
-    let stepped = pass.step(
-        section,
-        Relocation {
-            r_type,
-            offset,
-            flags,
-            output_kind,
-            executable,
-            address,
-            addend,
-        },
-    );
-    answers::step_answer(stepped)
+    let rel = Relocation {
+        r_type,
+        offset,
+        flags,
+        output_kind,
+        executable,
+        address,
+        addend,
+    };
+    let before = read(pass);
+    let calm = is_calm(before, offset);
+    if calm {
+        match plain::settle(section, rel) {
+            Plain::Settled(answer) => return pass_by(pass, before, offset, answer),
+            Plain::Other => return take(pass, section, rel),
+        }
+    }
+    take(pass, section, rel)
+}
+
+// Neither ended nor with a skip pending, and the offset doesn't fall.
+fn is_calm(pass: Pass, offset: u64) -> bool
+    ensures { λ r. ⌜ r ≡ calm pass offset ⌝ }
+{
+    !pass.ended & !pass.skip & (pass.last <= offset)
+}
+
+// A plain record: its window is empty, so that only the last offset changes.
+fn pass_by(words: &mut [u64; 4], before: Pass, offset: u64, relaxed: RelaxedAnswer) -> StepAnswer
+    ensures { λ r. ⌜ r ≡ record { skipped = false; relaxed = relaxed } ⌝ }
+    ensures { λ _. ⌜ now (words .exit) ≡ written (now (words .entry)) (at offset before) ⌝ }
+{
+    let mut after = before;
+    after.last = offset;
+    write(words, after);
+    StepAnswer {
+        skipped: false,
+        relaxed: relaxed,
+    }
+}
+
+// Any record.
+fn take(words: &mut [u64; 4], section: &mut [u8], rel: Relocation) -> StepAnswer
+    ensures { λ r. ⌜ r ≡ stepLayout (step (passOf (now (words .entry))) (now (section .entry)) rel .stepped .step) ⌝ }
+    ensures { λ _. ⌜ now (words .exit) ≡ wordsAfter (now (words .entry)) (step (passOf (now (words .entry))) (now (section .entry)) rel .stepped) ⌝ }
+    ensures { λ _. ⌜ now (section .exit) ≡ step (passOf (now (words .entry))) (now (section .entry)) rel .section ⌝ }
+    ensures { λ _. ⌜ SameMeaning (now (section .entry)) ⌝ }
+{
+    let stepped = read(words).step(section, rel);
+    finish(words, stepped)
 }
 
 // Ends a pass: 0, or refusal 21 or 24, which change nothing.
 #[no_mangle]
-pub extern "C" fn jitamoro_pass_end(pass: Pass) -> EndAnswer
-    ensures { λ r. ⌜ r ≡ endLayout (ended pass) ⌝ }
+pub extern "C" fn jitamoro_pass_end(pass: &mut [u64; 4]) -> u8
+    ensures { λ r. ⌜ r ≡ refusalOf (ending (passOf (now (pass .entry)))) ⌝ }
+    ensures { λ _. ⌜ now (pass .exit) ≡ wordsEnded (now (pass .entry)) (ending (passOf (now (pass .entry)))) ⌝ }
 {
-    answers::end_answer(pass.end())
+    let ended = read(pass).end();
+    let end = ended.end;
+    match end {
+        End::Granted => {
+            pass[3] = 1;
+            0
+        }
+        End::Refused(n) => n,
+    }
+}
+
+fn read(words: &[u64; 4]) -> Pass
+    ensures { λ r. ⌜ r ≡ passOf (now (words .entry)) ⌝ }
+{
+    Pass {
+        last: words[0],
+        window: words[1],
+        skip: words[2] != 0,
+        ended: words[3] != 0,
+    }
+}
+
+fn write(words: &mut [u64; 4], pass: Pass)
+    ensures { λ _. ⌜ now (words .exit) ≡ written (now (words .entry)) pass ⌝ }
+{
+    words[0] = pass.last;
+    words[1] = pass.window;
+    words[2] = pass.skip as u64;
+    words[3] = pass.ended as u64;
+}
+
+fn finish(words: &mut [u64; 4], stepped: Stepped) -> StepAnswer
+    ensures { λ r. ⌜ r ≡ stepLayout (stepped .step) ⌝ }
+    ensures { λ _. ⌜ now (words .exit) ≡ wordsAfter (now (words .entry)) stepped ⌝ }
+{
+    let pass = stepped.pass;
+    let step = stepped.step;
+    match step {
+        Step::Refused(n) => answer(false, Relaxed::Refused(n)),
+        Step::Nothing => {
+            write(words, pass);
+            answer(false, Relaxed::Nothing)
+        }
+        Step::Done(relaxation, moved) => {
+            write(words, pass);
+            answer(false, Relaxed::Done(relaxation, moved))
+        }
+        Step::Skipped => {
+            write(words, pass);
+            answer(true, Relaxed::Nothing)
+        }
+    }
+}
+
+fn answer(skipped: bool, relaxed: Relaxed) -> StepAnswer
+    ensures { λ r. ⌜ r ≡ record { skipped = skipped; relaxed = relaxedLayout relaxed } ⌝ }
+{
+    StepAnswer {
+        skipped: skipped,
+        relaxed: answers::relaxed_answer(relaxed),
+    }
 }

@@ -20,7 +20,7 @@ use Rattle.rules.specs.declared.Relocation.{Relocation}
 use Rattle.rules.specs.Record.{linkLimit, ifunc, isN, isS}
 use Rattle.rules.specs.Types.{lookup, earlierTypes, laterTypes}
 use Rattle.rules.specs.Choose.{Choice, none, chosen, given, pick, byType, choose, choosing, needsGotFallback}
-use Rattle.rules.specs.Rewrite.{claims, relaxChosen, relaxing, afterRelaxing}
+use Rattle.rules.specs.Rewrite.{Relaxed, unrelaxed, relaxed, claims, relaxChosen, relaxing, afterRelaxing}
 use Rattle.elf_x86_64_relaxation.specs.Choices.{choiceOf}
 use Rattle.relax.specs.Answers.{relaxedOf}
 use Rattle.answers.specs.declared.RelaxedAnswer.{RelaxedAnswer}
@@ -118,10 +118,10 @@ module _ (sec : List ℕ) (r : Relocation) (p : isPlain sec r ≡ true) where
       let h1 = both a b (h2 .0) in
       (leb-true _ _ (h1 .0), leb-true _ _ (h1 .1), ltb-true _ _ (h2 .1), leb-true _ _ (h3 .1), leb-true _ _ (h4 .1))
 
-  abbrev choice : Bool → Bool → Bool → Choice
+  abbrev pub choice : Bool → Bool → Bool → Choice
   choice c two s = cond c (chosen NoOp (cond two 4 2) (two || s)) none
 
-  admitted : choosing linkLimit sec r ≡ gives (choice (chosenBy r) (eqb (r .«r_type») 2) (isS (r .«output_kind»)))
+  pub admitted : choosing linkLimit sec r ≡ gives (choice (chosenBy r) (eqb (r .«r_type») 2) (isS (r .«output_kind»)))
   unfolding choosing
   admitted =
       let f = facts .3 in
@@ -132,26 +132,34 @@ module _ (sec : List ℕ) (r : Relocation) (p : isPlain sec r ≡ true) where
   answer c two s =
       record { choice = record { head = cond c (cond (two || s) 0x100090100 0x90100) 0; «new_type» = cond c (cond two 4 2) 0 }; offset = cond c (r .offset) 0; addend = cond c (r .addend) (pos 0) }
 
+  -- what relaxing gives: no byte changes
+  abbrev pub outcome : Bool → Bool → Bool → Relaxed
+  outcome c two s = cond c (relaxed NoOp (cond two 4 2) (two || s) (record { bytes = sec; offset = r .offset; addend = r .addend })) unrelaxed
+
+  pub relaxes : relaxing linkLimit sec r ≡ gives (outcome (chosenBy r) (eqb (r .«r_type») 2) (isS (r .«output_kind»)))
+  unfolding relaxing relaxChosen claims
+  relaxes = rw admitted (go (chosenBy r) (eqb (r .«r_type») 2) (isS (r .«output_kind»)))
+    where
+      low-end : leb 0 (r .offset) ≡ true
+      low-end = le-leb 0 (r .offset) (omega arith)
+
+      high-end : leb (r .offset - 0 + 0) (length sec) ≡ true
+      high-end = le-leb (r .offset - 0 + 0) (length sec) (omega (arith, facts .1))
+
+      go : (c two s : Bool) → relaxChosen sec r (gives (choice c two s)) ≡ gives (outcome c two s)
+      go true two s = rw (low-end, high-end, sub-zero (r .offset), add-zero (r .offset))
+      go false two s = refl
+
   -- the answer, that no byte changes, and the answer of choosing
-  abbrev Settles : Answer Choice → RelaxedAnswer → Type 0
-  Settles c x = (relaxedLayout (relaxedOf (relaxChosen sec r c)) ≡ x) × (afterRelaxing sec (relaxChosen sec r c) ≡ sec) × (choiceLayout (choiceOf c) ≡ x .choice)
-
-  low-end : leb 0 (r .offset) ≡ true
-  low-end = le-leb 0 (r .offset) (omega arith)
-
-  high-end : leb (r .offset - 0 + 0) (length sec) ≡ true
-  high-end = le-leb (r .offset - 0 + 0) (length sec) (omega (arith, facts .1))
-
-  at : (c two s : Bool) → Settles (gives (choice c two s)) (answer c two s)
-  unfolding relaxChosen afterRelaxing claims needsGotFallback lookup earlierTypes
-  at true true s = rw (low-end, high-end, sub-zero (r .offset), add-zero (r .offset)) (refl, refl, refl)
-  at true false true = rw (low-end, high-end, sub-zero (r .offset), add-zero (r .offset)) (refl, refl, refl)
-  at true false false = rw (low-end, high-end, sub-zero (r .offset), add-zero (r .offset)) (refl, refl, refl)
-  at false two s = (refl, refl, refl)
-
   pub settles : (relaxedLayout (relaxedOf (relaxing linkLimit sec r)) ≡ settledOf r) × (afterRelaxing sec (relaxing linkLimit sec r) ≡ sec) × (choiceLayout (choiceOf (choosing linkLimit sec r)) ≡ settledOf r .choice)
-  unfolding relaxing
-  settles = rw admitted (at (chosenBy r) (eqb (r .«r_type») 2) (isS (r .«output_kind»)))
+  unfolding afterRelaxing needsGotFallback lookup earlierTypes
+  settles = rw (relaxes, admitted) (at (chosenBy r) (eqb (r .«r_type») 2) (isS (r .«output_kind»)))
+    where
+      at : (c two s : Bool) → (relaxedLayout (relaxedOf (gives (outcome c two s))) ≡ answer c two s) × (afterRelaxing sec (gives (outcome c two s)) ≡ sec) × (choiceLayout (choiceOf (gives (choice c two s))) ≡ answer c two s .choice)
+      at true true s = (refl, refl, refl)
+      at true false true = (refl, refl, refl)
+      at true false false = (refl, refl, refl)
+      at false two s = (refl, refl, refl)
 
 -- ---- what a caller learns of an answer that is settled
 
@@ -168,16 +176,16 @@ settled true x a e = (refl, ap (un x) e)
 settled false x a e = absurd (false≢true (sym (ap is-settled e)))
 
 module _ (sec : List ℕ) (r : Relocation) (a : RelaxedAnswer) (e : Settled a ≡ plainOf (isPlain sec r) (relaxedLayout (relaxedOf (relaxing linkLimit sec r)))) where
-  both-facts : (isPlain sec r ≡ true) × (a ≡ relaxedLayout (relaxedOf (relaxing linkLimit sec r)))
-  both-facts = settled (isPlain sec r) _ a e
+  pub is-plain : (isPlain sec r ≡ true) × (a ≡ relaxedLayout (relaxedOf (relaxing linkLimit sec r)))
+  is-plain = settled (isPlain sec r) _ a e
 
   pub answers : a ≡ relaxedLayout (relaxedOf (relaxing linkLimit sec r))
-  answers = both-facts .1
+  answers = is-plain .1
 
   pub keeps : sec ≡ afterRelaxing sec (relaxing linkLimit sec r)
-  keeps = sym (settles sec r (both-facts .0) .1)
+  keeps = sym (settles sec r (is-plain .0) .1)
 
   pub chosen-too : a .choice ≡ choiceLayout (choiceOf (choosing linkLimit sec r))
   chosen-too =
-      let s = settles sec r (both-facts .0) in
+      let s = settles sec r (is-plain .0) in
       ap (λ (x : RelaxedAnswer). x .choice) (answers ∙ s .0) ∙ sym (s .2)

@@ -1,0 +1,72 @@
+-- What a plain record does to a calm pass, and an ending to the words.
+-- Assumes nothing.
+use mathlib.Core.Path.{_≡_, refl}
+use mathlib.Core.Bool.{Bool, true, false, not, _&&_, false≢true}
+use mathlib.Core.List.{List}
+use Prim.Native.Nat.{ℕ}
+use mir.Val.{boolByte}
+use lib.Dec.{eqb, leb, ltb}
+use lib.ListN.{set}
+use borrow.Author.Tests.{leb-true, le-ltb}
+use Rattle.laws.proofs.Bools.{both}
+use Rattle.x86_64_kind.specs.Kinds.{isEmpty}
+use Rattle.rules.specs.Answer.{Answer, gives, refuses, refusalOf, flag}
+use Rattle.rules.specs.declared.Relocation.{Relocation}
+use Rattle.rules.specs.Record.{linkLimit, isS}
+use Rattle.rules.specs.Rewrite.{claims, relaxing, afterRelaxing}
+use Rattle.relax.specs.Answers.{relaxedOf}
+use Rattle.answers.specs.Layout.{relaxedLayout}
+use Rattle.pass.specs.declared.Pass.{Pass}
+use Rattle.pass.specs.Pass.{Accepted, stepping, checked, clearing, passAfter, bytesAfter}
+use Rattle.pass.specs.declared.End.{End}
+use Rattle.pass.specs.declared.End.the-variants.{Granted, Refused}
+use Rattle.pass.specs.Answers.{stepOf, step, endOf}
+use Rattle.plain.specs.Plain.{isPlain, chosenBy}
+use Rattle.plain.proofs.Numbers.{choice, admitted, outcome, relaxes}
+use Rattle.jitamoro_pass.specs.Layout.{written, wordsAfter, stepLayout, wordsEnded, calm, at}
+
+pub as-flag : (b : Bool) → boolByte b ≡ flag b
+as-flag true = refl
+as-flag false = refl
+
+of-not : (b : Bool) → not b ≡ true → b ≡ false
+of-not true h = absurd (false≢true h)
+of-not false h = refl
+
+module _ (p : Pass) (sec : List ℕ) (r : Relocation) (q : calm p (r .offset) ≡ true) (plain : isPlain sec r ≡ true) where
+  facts : (p .ended ≡ false) × (p .skip ≡ false) × (ltb (r .offset) (p .last) ≡ false)
+  facts =
+      let h = both (not (p .ended) && not (p .skip)) (leb (p .last) (r .offset)) q in
+      let g = both (not (p .ended)) (not (p .skip)) (h .0) in
+      (of-not (p .ended) (g .0), of-not (p .skip) (g .1), le-ltb (r .offset) (p .last) (leb-true (p .last) (r .offset) (h .1)))
+
+  -- the answer, the words and the section that a step leaves, by whether a kind is chosen
+  abbrev still : Pass
+  still = record { last = p .last; window = p .window; skip = false; ended = false }
+
+  abbrev taken : Bool → Answer Accepted
+  taken c = clearing still r (gives (outcome sec r plain c (eqb (r .«r_type») 2) (isS (r .«output_kind»))))
+
+  by : (c : Bool) (w : List ℕ)
+      → (stepLayout (stepOf (taken c)) ≡ record { skipped = false; relaxed = relaxedLayout (relaxedOf (gives (outcome sec r plain c (eqb (r .«r_type») 2) (isS (r .«output_kind»))))) })
+      × (wordsAfter w (record { pass = passAfter still r (taken c); step = stepOf (taken c) }) ≡ written w (at (r .offset) still))
+      × (bytesAfter sec (taken c) ≡ sec)
+  unfolding clearing passAfter bytesAfter afterRelaxing claims
+  by true w = (refl, refl, refl)
+  by false w = (refl, refl, refl)
+
+  pub passed-by : (w : List ℕ)
+      → (stepLayout (step p sec r .stepped .step) ≡ record { skipped = false; relaxed = relaxedLayout (relaxedOf (relaxing linkLimit sec r)) })
+      × (wordsAfter w (step p sec r .stepped) ≡ written w (at (r .offset) p))
+      × (step p sec r .section ≡ sec)
+  unfolding step stepping checked
+  passed-by w = rw (facts .0, admitted sec r plain, facts .2, facts .1, relaxes sec r plain) (by (chosenBy r) w)
+
+-- what an ending answers, and the words that it leaves
+abbrev pub Ends : List ℕ → Answer Unit → End → Type 0
+Ends w a Granted = (0 ≡ refusalOf a) × (set w 3 1 ≡ wordsEnded w a)
+Ends w a (Refused n) = (n ≡ refusalOf a) × (w ≡ wordsEnded w a)
+
+pub ends : (w : List ℕ) (a : Answer Unit) → Ends w a (endOf a)
+ends w (gives u) = (refl, refl)
+ends w (refuses n) = (refl, refl)
