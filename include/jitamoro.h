@@ -4,12 +4,12 @@
  *
  * Demands on the caller. Only C's own: a pointer is valid for as many bytes as the length that follows it
  * says, for reading, and where it isn't const for writing too; a bool is 0 or 1. With length 0 the pointer
- * is not read and may be NULL. Any other arguments have an answer.
+ * is not read and may be NULL. A pass is lent too: its pointer is valid for it, never NULL, and it doesn't lie
+ * in the section lent with it. Any other arguments have an answer.
  *
  * Refusals. A field `refusal` is 0, or a number of `enum jitamoro_refusal`; under a refusal every other field of
- * the answer is 0 (but a pass is handed back as it came), and no lent byte has changed, except under
- * JITAMORO_REFUSED_PLT_REACH. If several refusals apply, the answer is the first in the order that stands at the
- * function.
+ * the answer is 0, and no lent byte has changed, except under JITAMORO_REFUSED_PLT_REACH. If several refusals
+ * apply, the answer is the first in the order that stands at the function.
  *
  * State and threads. Nothing is allocated, kept between calls, read from or written to elsewhere: answers and
  * lent bytes afterwards depend on the arguments and the lent bytes before alone. Threads may call at the same
@@ -223,24 +223,18 @@ struct jitamoro_relaxed {
     int64_t addend;
 };
 
-/* A walk over a section's records, as a value. */
+/* A walk over a section's records, held in place by the caller. Any words are a pass. */
 struct jitamoro_pass {
-    uint64_t last;   /* the last accepted record's offset */
-    uint64_t window; /* the end of the last window that wasn't empty */
-    bool skip;       /* the next record is to be skipped */
-    bool ended;
+    uint64_t last;    /* the last accepted record's offset */
+    uint64_t window;  /* the end of the last window that wasn't empty */
+    uint64_t pending; /* 0: no skip is pending; any other: the next record is to be skipped. A step sets 0 or 1 */
+    uint64_t ended;   /* 0: not ended; any other: ended. Ending sets 1 */
 };
 
-/* The pass afterwards, and what was done: `relaxed.choice.refusal` tells a refusal. */
+/* What a step did: `relaxed.choice.refusal` tells a refusal. */
 struct jitamoro_step {
-    struct jitamoro_pass pass;
     bool skipped; /* then `relaxed` is 0 throughout */
     struct jitamoro_relaxed relaxed;
-};
-
-struct jitamoro_end {
-    struct jitamoro_pass pass;
-    uint8_t refusal;
 };
 
 /* The row of a relocation type. */
@@ -304,19 +298,18 @@ bool jitamoro_next_modifier(uint8_t kind);
 
 /* ---- A section's records, in the order of their offsets */
 
-/* A pass before its first record: 0, 0, false, false. */
+/* A pass before its first record: four zeros, as `struct jitamoro_pass pass = {0};` has them. */
 struct jitamoro_pass jitamoro_pass_fresh(void);
 
 /* Takes one record: skips it if that is pending, with no byte touched, or relaxes it as jitamoro_relax does.
    Refusals 21, 1, 2, 3, 4, 22, then the skip, then 6 and 23 where a kind was chosen; an empty window is never
-   refused with 23. A refusal hands the pass back as it came. Any pass is taken, not only one that was handed
-   out. */
-struct jitamoro_step jitamoro_pass_step(struct jitamoro_pass pass, uint32_t r_type, uint8_t *section,
+   refused with 23. */
+struct jitamoro_step jitamoro_pass_step(struct jitamoro_pass *pass, uint32_t r_type, uint8_t *section,
                                         size_t len, uint64_t offset, uint8_t flags, uint8_t output_kind,
                                         bool executable, uint64_t address, int64_t addend);
 
-/* Ends the pass: sets `ended` and nothing else. Refusals 21, 24, which hand the pass back as it came. */
-struct jitamoro_end jitamoro_pass_end(struct jitamoro_pass pass);
+/* Ends the pass, and answers 0 or a refusal: sets `ended` and nothing else. Refusals 21, 24. */
+uint8_t jitamoro_pass_end(struct jitamoro_pass *pass);
 
 /* ---- Types, ranges, PLT entries, padding */
 
@@ -379,20 +372,15 @@ JITAMORO_AT_(jitamoro_relaxed, choice, 0);
 JITAMORO_AT_(jitamoro_relaxed, offset, 16);
 JITAMORO_AT_(jitamoro_relaxed, addend, 24);
 
-JITAMORO_SIZE_(struct jitamoro_pass, 24);
+JITAMORO_SIZE_(struct jitamoro_pass, 32);
 JITAMORO_AT_(jitamoro_pass, last, 0);
 JITAMORO_AT_(jitamoro_pass, window, 8);
-JITAMORO_AT_(jitamoro_pass, skip, 16);
-JITAMORO_AT_(jitamoro_pass, ended, 17);
+JITAMORO_AT_(jitamoro_pass, pending, 16);
+JITAMORO_AT_(jitamoro_pass, ended, 24);
 
-JITAMORO_SIZE_(struct jitamoro_step, 64);
-JITAMORO_AT_(jitamoro_step, pass, 0);
-JITAMORO_AT_(jitamoro_step, skipped, 24);
-JITAMORO_AT_(jitamoro_step, relaxed, 32);
-
-JITAMORO_SIZE_(struct jitamoro_end, 32);
-JITAMORO_AT_(jitamoro_end, pass, 0);
-JITAMORO_AT_(jitamoro_end, refusal, 24);
+JITAMORO_SIZE_(struct jitamoro_step, 40);
+JITAMORO_AT_(jitamoro_step, skipped, 0);
+JITAMORO_AT_(jitamoro_step, relaxed, 8);
 
 JITAMORO_SIZE_(struct jitamoro_relocation, 32);
 JITAMORO_AT_(jitamoro_relocation, refusal, 0);

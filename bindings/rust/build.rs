@@ -1,4 +1,4 @@
-//! Says where libjitamoro.a lies: in JITAMORO_LIB_DIR, or else where `rt staticlib jitamoro` puts it.
+//! Says where libjitamoro.a lies: in JITAMORO_LIB_DIR, or else where the script `build` puts it.
 
 fn main() {
     let dir = std::env::var("JITAMORO_LIB_DIR").unwrap_or_else(|_| {

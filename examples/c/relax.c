@@ -64,7 +64,7 @@ struct place {
 };
 
 /* Steps over one record; a refused one leaves pass and section as they were, and the walk goes on. */
-static struct jitamoro_pass step(struct jitamoro_pass pass, const struct place *place, uint8_t *section, size_t len) {
+static void step(struct jitamoro_pass *pass, const struct place *place, uint8_t *section, size_t len) {
     struct jitamoro_step s =
         jitamoro_pass_step(pass, place->r_type, section, len, place->offset, JITAMORO_FLAG_NON_INTERPOSABLE,
                            JITAMORO_OUTPUT_STATIC_FIXED, true, 0x401000, -4);
@@ -74,7 +74,6 @@ static struct jitamoro_pass step(struct jitamoro_pass pass, const struct place *
     } else {
         print_relaxed(&s.relaxed);
     }
-    return s.pass;
 }
 
 /* A general-dynamic sequence with its call, and a load. Two records are out of place. */
@@ -90,11 +89,11 @@ static bool walk(void) {
     struct jitamoro_pass pass = jitamoro_pass_fresh();
     puts("a walk:");
     for (size_t i = 0; i < sizeof places / sizeof places[0]; i++) {
-        pass = step(pass, &places[i], section, sizeof section);
+        step(&pass, &places[i], section, sizeof section);
     }
-    struct jitamoro_end end = jitamoro_pass_end(pass);
-    if (end.refusal != JITAMORO_NOT_REFUSED) {
-        print_refusal(end.refusal);
+    uint8_t refusal = jitamoro_pass_end(&pass);
+    if (refusal != JITAMORO_NOT_REFUSED) {
+        print_refusal(refusal);
         return false;
     }
     puts("  ended");

@@ -1,7 +1,7 @@
 /* Calls the functions of jitamoro.h with edge and random arguments for a while, and checks what they answer and
-   every byte that they were lent: fuzz PLACEMENT SECONDS SEED. PLACEMENT is where sections lie: `end`, so that
-   they end at a page that can't be accessed; `begin`, so that they begin after one; `heap`, in blocks of malloc
-   of just their length. It ends with 0, with 1 at the first wrong answer or byte, or with 3 at a fault. */
+   every byte that they were lent: fuzz PLACEMENT SECONDS SEED. PLACEMENT is where sections and passes lie: `end`,
+   so that they end at a page that can't be accessed; `begin`, so that they begin after one; `heap`, in blocks of
+   malloc of just their length. It ends with 0, with 1 at the first wrong answer or byte, or with 3 at a fault. */
 #define _GNU_SOURCE
 #include "tables.h"
 #include <inttypes.h>
@@ -26,7 +26,7 @@ struct record {
     int64_t addend;
 };
 
-/* pass_end is lent no bytes, but answers as the others do. */
+/* pass_end is lent no section, but answers as the others do. */
 enum function { RELAX, NEW_RELAXATION, APPLY, PASS_STEP, PASS_END, WRITE_PLT_ENTRY, FILL_SECTION_PADDING };
 
 static const char *const names[] = {"relax",           "new_relaxation",      "apply", "pass_step", "pass_end",
@@ -59,7 +59,8 @@ struct answer {
     uint64_t field[MAX_FIELDS];
 };
 
-/* Fields of a choice; in a relaxed record's answer offset and addend follow, in a step's then skipped and the pass. */
+/* Fields of a choice; in a relaxed record's answer offset and addend follow, in a step's then skipped and the pass
+   that it left. */
 enum { REFUSAL, CHOSEN, KIND, INST_OFFSET, MANDATORY, SKIP_NEXT, GOT_FALLBACK, NEW_TYPE };
 
 static struct {
@@ -87,8 +88,9 @@ static void print_call(const struct call *c, const struct lent *l, bool ended) {
     printf("  jitamoro_%s: type %" PRIu32 " offset %" PRIu64 " flags %d output kind %d executable %d address %#" PRIx64
            " addend %" PRId64 "\n",
            names[c->function], r->r_type, r->offset, r->flags, r->output_kind, r->executable, r->address, r->addend);
-    printf("  kind %d instruction offset %d; pass %" PRIu64 " %" PRIu64 " %d %d; GOT %#" PRIx64 " PLT %#" PRIx64 "\n",
-           c->kind, c->inst_offset, p->last, p->window, p->skip, p->ended, c->got_address, c->plt_address);
+    printf("  kind %d instruction offset %d; pass %" PRIu64 " %" PRIu64 " %" PRIu64 " %" PRIu64 "; GOT %#" PRIx64
+           " PLT %#" PRIx64 "\n",
+           c->kind, c->inst_offset, p->last, p->window, p->pending, p->ended, c->got_address, c->plt_address);
     printf("  section of %zu bytes; watched are %zu from byte %td on\n", l->len, l->watched_len, l->first);
     print_bytes("before", l->before, l->watched_len);
     if (ended) {
@@ -114,11 +116,17 @@ static void check(bool right, const char *what) {
     }
 }
 
+/* Where passes lie, and the bytes beside them that can be accessed: watched as those beside a section are. */
+static struct jitamoro_pass *lent_pass;
+static uint8_t *beside_pass, beside_before[MARGIN];
+
 static void on_fault(int number, siginfo_t *info, void *context) {
     (void)context;
     if (run.call != NULL) {
         const uint8_t *section = run.call->function == NEW_RELAXATION ? run.lent->read : run.lent->write;
-        printf("fuzz: at byte %td of the section:\n", (ptrdiff_t)((uintptr_t)info->si_addr - (uintptr_t)section));
+        uintptr_t at = (uintptr_t)info->si_addr;
+        printf("fuzz: at byte %td of the section, %td of the pass:\n", (ptrdiff_t)(at - (uintptr_t)section),
+               (ptrdiff_t)(at - (uintptr_t)lent_pass));
     }
     report(number == SIGSEGV ? "access outside what was lent" : "signal", false);
     _exit(3);
@@ -190,12 +198,17 @@ static uint64_t any_near(uint64_t offset, uint64_t few) {
     }
 }
 
+/* 0, but one time in n 1 or, as often, any number. */
+static uint64_t any_word(uint64_t n) {
+    return !one_in(n) ? 0 : one_in(2) ? 1 : any_number();
+}
+
 static struct jitamoro_pass any_pass(uint64_t offset) {
     return (struct jitamoro_pass){
         .last = any_near(offset, 3),
         .window = any_near(offset, 16),
-        .skip = one_in(6),
-        .ended = one_in(12),
+        .pending = any_word(6),
+        .ended = any_word(12),
     };
 }
 
@@ -256,6 +269,17 @@ static void fill_at_random(uint8_t *bytes, size_t len) {
     for (size_t i = 0; i < len; i++) {
         bytes[i] = (uint8_t)any64();
     }
+}
+
+/* On the heap nothing lies beside the pass, and what is watched lies elsewhere. */
+static void place_pass(void) {
+    uint8_t *page = guarded_pages(PAGE, PROT_READ | PROT_WRITE, MAP_PRIVATE | MAP_ANONYMOUS, -1);
+    size_t at = run.placement == END ? PAGE - sizeof *lent_pass : 0;
+    lent_pass = run.placement == HEAP ? malloc(sizeof *lent_pass) : (void *)(page + at);
+    check(lent_pass != NULL, "no memory");
+    beside_pass = run.placement == END ? page + at - MARGIN : page + sizeof *lent_pass;
+    fill_at_random(beside_before, MARGIN);
+    memcpy(beside_pass, beside_before, MARGIN);
 }
 
 /* A section of a length with bytes at random, to be given back by `release`. An empty one may be at NULL. */
@@ -328,11 +352,11 @@ static void add(struct answer *a, uint64_t field) {
     a->field[a->count++] = field;
 }
 
-static void add_pass(struct answer *a, struct jitamoro_pass p) {
-    add(a, p.last);
-    add(a, p.window);
-    add(a, p.skip);
-    add(a, p.ended);
+static void add_pass(struct answer *a, const struct jitamoro_pass *p) {
+    add(a, p->last);
+    add(a, p->window);
+    add(a, p->pending);
+    add(a, p->ended);
 }
 
 static struct answer of_choice(struct jitamoro_choice c) {
@@ -350,7 +374,7 @@ static struct answer of_relaxed(struct jitamoro_relaxed r) {
 static struct answer of_step(struct jitamoro_step s) {
     struct answer a = of_relaxed(s.relaxed);
     add(&a, s.skipped);
-    add_pass(&a, s.pass);
+    add_pass(&a, lent_pass);
     return a;
 }
 
@@ -358,9 +382,9 @@ static struct answer of_moved(struct jitamoro_moved m) {
     return (struct answer){3, {m.refusal, m.offset, (uint64_t)m.addend}};
 }
 
-static struct answer of_end(struct jitamoro_end e) {
-    struct answer a = {1, {e.refusal}};
-    add_pass(&a, e.pass);
+static struct answer of_end(uint8_t refusal) {
+    struct answer a = {1, {refusal}};
+    add_pass(&a, lent_pass);
     return a;
 }
 
@@ -384,8 +408,8 @@ static struct answer perform(const struct call *c, const struct lent *l) {
     case RELAX: return of_relaxed(jitamoro_relax(RECORD(r, l->write, l->len)));
     case NEW_RELAXATION: return of_choice(jitamoro_new_relaxation(RECORD(r, l->read, l->len)));
     case APPLY: return of_moved(jitamoro_apply(c->kind, c->inst_offset, l->write, l->len, r->offset, r->addend));
-    case PASS_STEP: return of_step(jitamoro_pass_step(c->pass, RECORD(r, l->write, l->len)));
-    case PASS_END: return of_end(jitamoro_pass_end(c->pass));
+    case PASS_STEP: return of_step(jitamoro_pass_step(lent_pass, RECORD(r, l->write, l->len)));
+    case PASS_END: return of_end(jitamoro_pass_end(lent_pass));
     case WRITE_PLT_ENTRY:
         return (struct answer){1, {jitamoro_write_plt_entry(l->write, l->len, c->got_address, c->plt_address)}};
     case FILL_SECTION_PADDING: jitamoro_fill_section_padding(l->write, l->len, r->executable); break;
@@ -393,11 +417,13 @@ static struct answer perform(const struct call *c, const struct lent *l) {
     return (struct answer){1, {0}};
 }
 
-/* Calls on the bytes of l->before, whose successors it puts into l->after. */
+/* Calls on the bytes of l->before, whose successors it puts into l->after, and on the call's pass. */
 static struct answer call_once(const struct call *c, struct lent *l) {
     memcpy(l->watched, l->before, l->watched_len);
+    *lent_pass = c->pass;
     struct answer a = perform(c, l);
     memcpy(l->after, l->watched, l->watched_len);
+    check(memcmp(beside_pass, beside_before, MARGIN) == 0, "a byte beside the pass changed");
     return a;
 }
 
@@ -416,7 +442,7 @@ static bool unchanged(const struct lent *l) {
     return memcmp(l->before, l->after, l->watched_len) == 0;
 }
 
-/* Calls twice, and checks that both do the same, and nothing beside the section. */
+/* Calls twice, and checks that both do the same, and nothing beside what was lent. */
 static struct answer call(const struct call *c, struct lent *l) {
     static uint8_t first[MAX_WATCHED];
     run.call = c;
@@ -564,7 +590,7 @@ static void check_relaxing(struct lent *l, const struct record *r, struct tried 
 
 /* Refusals 21, 1 to 4, 22, or 0. */
 static unsigned refusal_of_step(const struct jitamoro_pass *p, const struct record *r, size_t len) {
-    if (p->ended) {
+    if (p->ended != 0) {
         return 21;
     }
     unsigned refusal = refusal_of_record(r, len);
@@ -583,7 +609,7 @@ static bool take(struct jitamoro_pass *p, uint64_t offset, const struct tried *t
             return false;
         }
         p->window = empty ? p->window : offset + (uint64_t)s->end;
-        p->skip = t->choice.field[SKIP_NEXT] != 0;
+        p->pending = t->choice.field[SKIP_NEXT];
     }
     p->last = offset;
     return true;
@@ -596,9 +622,9 @@ static struct jitamoro_pass check_step(struct lent *l, const struct record *r, s
     struct answer a = call(&c, l);
     struct answer expected = {10, {refusal_of_step(&pass, r, l->len)}};
     const uint8_t *bytes = l->before;
-    bool skipped = expected.field[REFUSAL] == 0 && pass.skip;
+    bool skipped = expected.field[REFUSAL] == 0 && pass.pending != 0;
     if (skipped) {
-        pass.skip = false;
+        pass.pending = 0;
         pass.last = r->offset;
     } else if (expected.field[REFUSAL] == 0) {
         if (take(&pass, r->offset, t)) {
@@ -609,7 +635,7 @@ static struct jitamoro_pass check_step(struct lent *l, const struct record *r, s
         }
     }
     add(&expected, skipped);
-    add_pass(&expected, pass);
+    add_pass(&expected, &pass);
     check(same(&a, &expected), "a step: wrong refusal, answer or pass");
     check(memcmp(l->after, bytes, l->watched_len) == 0, "a step leaves other bytes than relaxing, or than there were");
     return pass;
@@ -618,9 +644,9 @@ static struct jitamoro_pass check_step(struct lent *l, const struct record *r, s
 static void check_end(struct lent *l, struct jitamoro_pass pass) {
     struct call c = {.function = PASS_END, .pass = pass};
     struct answer a = call(&c, l);
-    struct answer expected = {1, {pass.ended ? 21 : pass.skip ? 24 : 0}};
-    pass.ended = pass.ended || expected.field[REFUSAL] == 0;
-    add_pass(&expected, pass);
+    struct answer expected = {1, {pass.ended != 0 ? 21 : pass.pending != 0 ? 24 : 0}};
+    pass.ended = expected.field[REFUSAL] == 0 ? 1 : pass.ended;
+    add_pass(&expected, &pass);
     check(same(&a, &expected), "an end: wrong refusal or pass");
 }
 
@@ -640,8 +666,8 @@ static void walk(struct lent *l) {
     struct answer fresh = {0, {0}}, zeros = {4, {0}};
     struct jitamoro_pass pass = jitamoro_pass_fresh();
     run.calls++;
-    add_pass(&fresh, pass);
-    check(same(&fresh, &zeros), "a fresh pass isn't 0, 0, no, no");
+    add_pass(&fresh, &pass);
+    check(same(&fresh, &zeros), "a fresh pass isn't four zeros");
     for (uint64_t left = 1 + below(4); left != 0; left--) {
         struct record r = any_record_in(l);
         pass = check_record(l, &r, pass);
@@ -874,6 +900,7 @@ int main(int argc, char **argv) {
     sigaction(SIGSEGV, &action, NULL);
     sigaction(SIGBUS, &action, NULL);
     make_arena();
+    place_pass();
     tour();
     do {
         for (int i = 0; i < 128; i++) {

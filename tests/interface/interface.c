@@ -1,5 +1,5 @@
 /*
- * What C sees of the library, by document 01 alone: the version, every field of a pass after a step, and the order
+ * What C sees of the library, by document 01 alone: the version, every word of a pass after a step, and the order
  * of the refusals, with the longest section and one byte more, and the ends of the ranges.
  */
 #define _DEFAULT_SOURCE
@@ -31,61 +31,72 @@ static void version(void) {
     EXPECT(strcmp(JITAMORO_VERSION, numbers), 0);
 }
 
-/* ---- A pass's fields */
+/* ---- A pass's words */
 
-static void expect_pass(int line, struct jitamoro_pass pass, uint64_t last, uint64_t window, bool skip, bool ended) {
-    expect(line, "last", pass.last, last);
-    expect(line, "window", pass.window, window);
-    expect(line, "skip", pass.skip, skip);
-    expect(line, "ended", pass.ended, ended);
+static void expect_pass(int line, const struct jitamoro_pass *pass, struct jitamoro_pass wanted) {
+    expect(line, "last", pass->last, wanted.last);
+    expect(line, "window", pass->window, wanted.window);
+    expect(line, "pending", pass->pending, wanted.pending);
+    expect(line, "ended", pass->ended, wanted.ended);
 }
 
-#define EXPECT_PASS(pass, last, window, skip, ended) expect_pass(__LINE__, pass, last, window, skip, ended)
+/* The words of `pass`, in order. */
+#define EXPECT_PASS(...) expect_pass(__LINE__, &pass, (struct jitamoro_pass){__VA_ARGS__})
 
-static struct jitamoro_step step(struct jitamoro_pass pass, uint32_t r_type, uint64_t offset, uint8_t *section,
+static struct jitamoro_step step(struct jitamoro_pass *pass, uint32_t r_type, uint64_t offset, uint8_t *section,
                                  size_t len) {
     return jitamoro_pass_step(pass, r_type, section, len, offset, JITAMORO_FLAG_NON_INTERPOSABLE,
                               JITAMORO_OUTPUT_STATIC_FIXED, true, 0x401000, -4);
 }
 
-/* No two fields of one type are equal after the steps here, so that none can stand in another's place. */
-static void pass_fields(void) {
+/* No two words that aren't 0 are equal after the steps here, so that none can stand in another's place. */
+static void pass_words(void) {
     uint8_t section[32] = {0x66, 0x48, 0x8d, 0x3d, 0, 0, 0, 0, 0x66, 0x66, 0x48, 0xe8};
     struct jitamoro_pass pass = jitamoro_pass_fresh();
-    EXPECT_PASS(pass, 0, 0, false, false);
-    struct jitamoro_step s = step(pass, JITAMORO_R_X86_64_TLSGD, 4, section, sizeof section);
+    EXPECT_PASS(0);
+    struct jitamoro_step s = step(&pass, JITAMORO_R_X86_64_TLSGD, 4, section, sizeof section);
     EXPECT(s.skipped, false);
     EXPECT(s.relaxed.choice.refusal, 0);
     EXPECT(s.relaxed.choice.chosen, true);
     EXPECT(s.relaxed.choice.kind, JITAMORO_KIND_TLS_GD_TO_LOCAL_EXEC);
     EXPECT(s.relaxed.choice.skip_next, true);
     EXPECT(s.relaxed.offset, 12);
-    EXPECT_PASS(s.pass, 4, 12, true, false);
-    EXPECT(jitamoro_pass_end(s.pass).refusal, JITAMORO_REFUSED_SKIP_PENDING);
-    EXPECT_PASS(jitamoro_pass_end(s.pass).pass, 4, 12, true, false);
-    s = step(s.pass, JITAMORO_R_X86_64_PLT32, 14, section, sizeof section);
+    EXPECT_PASS(4, 12, 1, 0);
+    EXPECT(jitamoro_pass_end(&pass), JITAMORO_REFUSED_SKIP_PENDING);
+    EXPECT_PASS(4, 12, 1, 0);
+    s = step(&pass, JITAMORO_R_X86_64_PLT32, 14, section, sizeof section);
     EXPECT(s.skipped, true);
-    EXPECT_PASS(s.pass, 14, 12, false, false);
-    s = step(s.pass, JITAMORO_R_X86_64_64, 15, section, sizeof section);
+    EXPECT_PASS(14, 12, 0, 0);
+    s = step(&pass, JITAMORO_R_X86_64_64, 15, section, sizeof section);
     EXPECT(s.relaxed.choice.chosen, false);
-    EXPECT_PASS(s.pass, 15, 12, false, false);
-    s = step(s.pass, JITAMORO_R_X86_64_64, 13, section, sizeof section);
+    EXPECT_PASS(15, 12, 0, 0);
+    s = step(&pass, JITAMORO_R_X86_64_64, 13, section, sizeof section);
     EXPECT(s.relaxed.choice.refusal, JITAMORO_REFUSED_ORDER);
-    EXPECT_PASS(s.pass, 15, 12, false, false);
-    struct jitamoro_end end = jitamoro_pass_end(s.pass);
-    EXPECT(end.refusal, 0);
-    EXPECT_PASS(end.pass, 15, 12, false, true);
-    EXPECT(jitamoro_pass_end(end.pass).refusal, JITAMORO_REFUSED_PASS_ENDED);
-    /* Passes that no walk hands out: each field is read as what it is called. */
-    s = step((struct jitamoro_pass){.last = 3, .window = 1ull << 40, .skip = true}, 1, 5, section, sizeof section);
-    EXPECT(s.skipped, true);
-    EXPECT_PASS(s.pass, 5, 1ull << 40, false, false);
-    s = step((struct jitamoro_pass){.last = 1ull << 40, .window = 3, .skip = true}, 1, 5, section, sizeof section);
-    EXPECT(s.relaxed.choice.refusal, JITAMORO_REFUSED_ORDER);
-    EXPECT_PASS(s.pass, 1ull << 40, 3, true, false);
-    s = step((struct jitamoro_pass){.last = 7, .window = 9, .ended = true}, 1, 5, section, sizeof section);
-    EXPECT(s.relaxed.choice.refusal, JITAMORO_REFUSED_PASS_ENDED);
-    EXPECT_PASS(s.pass, 7, 9, false, true);
+    EXPECT_PASS(15, 12, 0, 0);
+    EXPECT(jitamoro_pass_end(&pass), 0);
+    EXPECT_PASS(15, 12, 0, 1);
+    EXPECT(jitamoro_pass_end(&pass), JITAMORO_REFUSED_PASS_ENDED);
+    EXPECT_PASS(15, 12, 0, 1);
+}
+
+/* Passes that no walk leaves: each word is read as what it is called, and any but 0 is a yes. */
+static void any_words(void) {
+    static const uint64_t yes[] = {1, 7, 255, 256, 1ull << 32, 1ull << 63, UINT64_MAX};
+    uint8_t section[32] = {0};
+    for (size_t i = 0; i < sizeof yes / sizeof yes[0]; i++) {
+        struct jitamoro_pass pass = {3, 1ull << 40, yes[i], 0};
+        EXPECT(jitamoro_pass_end(&pass), JITAMORO_REFUSED_SKIP_PENDING);
+        EXPECT_PASS(3, 1ull << 40, yes[i], 0);
+        EXPECT(step(&pass, 1, 5, section, sizeof section).skipped, true);
+        EXPECT_PASS(5, 1ull << 40, 0, 0);
+        pass = (struct jitamoro_pass){1ull << 40, 3, yes[i], 0};
+        EXPECT(step(&pass, 1, 5, section, sizeof section).relaxed.choice.refusal, JITAMORO_REFUSED_ORDER);
+        EXPECT_PASS(1ull << 40, 3, yes[i], 0);
+        pass = (struct jitamoro_pass){7, 9, 0, yes[i]};
+        EXPECT(step(&pass, 1, 5, section, sizeof section).relaxed.choice.refusal, JITAMORO_REFUSED_PASS_ENDED);
+        EXPECT(jitamoro_pass_end(&pass), JITAMORO_REFUSED_PASS_ENDED);
+        EXPECT_PASS(7, 9, 0, yes[i]);
+    }
 }
 
 /* ---- The order of the refusals */
@@ -101,11 +112,12 @@ struct asked {
 
 /* The refusal of each function: of a step 0 too where the record is skipped. */
 static void refusals(int line, const struct asked *a, int step_, int relax_, int choose_, int apply_) {
-    struct jitamoro_step s = jitamoro_pass_step(a->pass, JITAMORO_R_X86_64_TLSDESC_CALL, a->section, a->len, a->offset,
+    struct jitamoro_pass pass = a->pass;
+    struct jitamoro_step s = jitamoro_pass_step(&pass, JITAMORO_R_X86_64_TLSDESC_CALL, a->section, a->len, a->offset,
                                                 a->flags, a->output_kind, true, 0, 0);
     expect(line, "step", s.relaxed.choice.refusal, (uint64_t)step_);
     if (step_ != 0) {
-        expect_pass(line, s.pass, a->pass.last, a->pass.window, a->pass.skip, a->pass.ended);
+        expect_pass(line, &pass, a->pass);
     }
     struct jitamoro_choice c = jitamoro_new_relaxation(JITAMORO_R_X86_64_TLSDESC_CALL, a->section, a->len, a->offset,
                                                        a->flags, a->output_kind, true, 0, 0);
@@ -130,12 +142,12 @@ static void order(void) {
         return;
     }
     struct asked a = {
-        .pass = {.last = UINT64_MAX, .window = most, .skip = true, .ended = true},
+        .pass = {.last = UINT64_MAX, .window = most, .pending = 7, .ended = 255},
         .section = section, .len = most + 1, .offset = UINT64_MAX - 1, .flags = 16, .output_kind = 6,
         .kind = JITAMORO_KIND_REX_MOV_INDIRECT_TO_ABSOLUTE, .inst_offset = 5,
     };
     REFUSALS(21, 1, 1, 1);
-    a.pass.ended = false;
+    a.pass.ended = 0;
     REFUSALS(1, 1, 1, 1);
     a.offset = most + 2;
     REFUSALS(1, 1, 1, 1);
@@ -158,15 +170,16 @@ static void order(void) {
     REFUSALS(22, 6, 0, 6);
     a.pass.last = most - 1;
     REFUSALS(0, 6, 0, 6); /* the skip */
-    a.pass.skip = false;
+    a.pass.pending = 0;
     REFUSALS(6, 6, 0, 6);
-    a.offset = a.pass.last = most - 2;
+    a.offset = most - 2;
+    a.pass.last = most - 3;
     a.kind = JITAMORO_KIND_NO_OP;
     a.pass.window = most - 1;
     EXPECT(section[most - 1], 0);
-    struct jitamoro_step s = step(a.pass, JITAMORO_R_X86_64_TLSDESC_CALL, a.offset, section, most);
-    EXPECT(s.relaxed.choice.refusal, 23);
-    EXPECT_PASS(s.pass, most - 2, most - 1, false, false);
+    struct jitamoro_pass pass = a.pass;
+    EXPECT(step(&pass, JITAMORO_R_X86_64_TLSDESC_CALL, a.offset, section, most).relaxed.choice.refusal, 23);
+    EXPECT_PASS(most - 3, most - 1, 0, 0);
     EXPECT(section[most - 1], 0);
     a.pass.window = most - 2;
     REFUSALS(0, 0, 0, 0);
@@ -228,13 +241,14 @@ static void ranges(void) {
 
 int main(void) {
     version();
-    pass_fields();
+    pass_words();
+    any_words();
     order();
     others();
     ranges();
     if (failures != 0) {
         return 1;
     }
-    puts("interface: the version, a pass's fields, the refusals' order and the ranges are as they should be");
+    puts("interface: the version, a pass's words, the refusals' order and the ranges are as they should be");
     return 0;
 }

@@ -7,8 +7,7 @@ use crate::refusal::Refusal;
 use crate::refusal::check;
 use crate::sys;
 
-/// A walk over a section's records in the order of their offsets. It is taken and handed back by value;
-/// a refusal hands it back unchanged.
+/// A walk over a section's records in the order of their offsets.
 ///
 /// ```
 /// # use jitamoro::{OutputKind, Pass, Record, RelocationModel, Step, ValueFlags};
@@ -22,15 +21,13 @@ use crate::sys;
 ///     sym_addr: 0,
 ///     rel_addend: 0,
 /// };
-/// let (pass, step) = Pass::fresh().step(&record, &mut section);
-/// assert!(matches!(step?, Step::Relaxed(_)));
+/// let mut pass = Pass::fresh();
+/// assert!(matches!(pass.step(&record, &mut section)?, Step::Relaxed(_)));
 /// assert_eq!(section, [0x66, 0x90]);
-/// let (_, end) = pass.end();
-/// end?;
+/// pass.end()?;
 /// # Ok::<(), jitamoro::Refusal>(())
 /// ```
 #[derive(Debug, Clone, PartialEq, Eq)]
-#[must_use]
 pub struct Pass(sys::Pass);
 
 /// What a step did.
@@ -46,6 +43,7 @@ pub enum Step {
 
 impl Pass {
     /// A pass before its first record.
+    #[must_use]
     pub fn fresh() -> Self {
         Self(sys::jitamoro_pass_fresh())
     }
@@ -56,23 +54,20 @@ impl Pass {
     /// [`Refusal::PassEnded`], those of [`relax`](crate::relax()), [`Refusal::OffsetBelowLast`],
     /// [`Refusal::WindowOverlap`]; pass and section are unchanged then.
     #[inline]
-    pub fn step(self, record: &Record, section_bytes: &mut [u8]) -> (Self, Result<Step, Refusal>) {
-        let answer = ask!(sys::pass_step, record, section_bytes, self.0);
-        let step = match Relaxed::from_answer(&answer.relaxed) {
-            Ok(None) if answer.skipped => Ok(Step::Skipped),
-            Ok(None) => Ok(Step::Nothing),
-            Ok(Some(relaxed)) => Ok(Step::Relaxed(relaxed)),
-            Err(refusal) => Err(refusal),
-        };
-        (Self(answer.pass), step)
+    pub fn step(&mut self, record: &Record, section_bytes: &mut [u8]) -> Result<Step, Refusal> {
+        let answer = ask!(sys::pass_step, record, section_bytes, &mut self.0);
+        Ok(match Relaxed::from_answer(&answer.relaxed)? {
+            Some(relaxed) => Step::Relaxed(relaxed),
+            None if answer.skipped => Step::Skipped,
+            None => Step::Nothing,
+        })
     }
 
-    /// Ends the pass. What is handed back takes no more records.
+    /// Ends the pass, which takes no more records then.
     ///
     /// # Errors
     /// [`Refusal::PassEnded`], [`Refusal::SkipPending`]; the pass is unchanged then.
-    pub fn end(self) -> (Self, Result<(), Refusal>) {
-        let answer = sys::jitamoro_pass_end(self.0);
-        (Self(answer.pass), check(answer.refusal))
+    pub fn end(&mut self) -> Result<(), Refusal> {
+        check(sys::jitamoro_pass_end(&mut self.0))
     }
 }

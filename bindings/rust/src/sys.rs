@@ -1,7 +1,7 @@
 //! The exported functions as they are: numbers of document 01, a slice as a pointer and a length. Nothing
 //! checks these declarations against the Rattle source, where each function has its contract.
 //!
-//! In an answer `refusal` is 0 or a refusal's number, and then every other field is 0, but for the pass.
+//! In an answer `refusal` is 0 or a refusal's number, and then every other field is 0.
 
 /// The predicates of an output kind. Refusal 4.
 #[derive(Debug, Default, Clone, Copy, PartialEq, Eq)]
@@ -76,32 +76,23 @@ pub struct RelaxedAnswer {
     pub addend: i64,
 }
 
-/// A pass: the last record's offset, the end of the last window that wasn't empty, whether a skip is
-/// pending, and whether the pass has ended.
+/// A pass, held in place: the last record's offset, the end of the last window that wasn't empty, whether
+/// a skip is pending, and whether the pass has ended; of these two 0 means no, and any other word yes.
 #[derive(Debug, Default, Clone, Copy, PartialEq, Eq)]
 #[repr(C)]
 pub struct Pass {
     pub last: u64,
     pub window: u64,
-    pub skip: bool,
-    pub ended: bool,
+    pub pending: u64,
+    pub ended: u64,
 }
 
-/// The pass after a step, and what the step did. Refusals 21, 1 to 4, 22, 6, 23, in `relaxed.choice`.
+/// What a step did. Refusals 21, 1 to 4, 22, 6, 23, in `relaxed.choice`.
 #[derive(Debug, Default, Clone, Copy, PartialEq, Eq)]
 #[repr(C)]
 pub struct StepAnswer {
-    pub pass: Pass,
     pub skipped: bool,
     pub relaxed: RelaxedAnswer,
-}
-
-/// The pass after its end. Refusals 21, 24.
-#[derive(Debug, Default, Clone, Copy, PartialEq, Eq)]
-#[repr(C)]
-pub struct EndAnswer {
-    pub pass: Pass,
-    pub refusal: u8,
 }
 
 // Not bundled: the library is needed where a program is linked, not where this crate is compiled.
@@ -178,7 +169,7 @@ unsafe extern "C" {
     /// # Safety
     /// `section` is valid for reads and writes of `len` bytes.
     pub fn jitamoro_pass_step(
-        pass: Pass,
+        pass: &mut Pass,
         r_type: u32,
         section: *mut u8,
         len: usize,
@@ -190,7 +181,8 @@ unsafe extern "C" {
         addend: i64,
     ) -> StepAnswer;
 
-    pub safe fn jitamoro_pass_end(pass: Pass) -> EndAnswer;
+    /// Answers 0, or refusal 21 or 24.
+    pub safe fn jitamoro_pass_end(pass: &mut Pass) -> u8;
 }
 
 /// Safe wrappers: the slice goes as a pointer, which the method in brackets gives, and a length.
@@ -272,5 +264,5 @@ record_wrappers! {
 
     fn relax([as_mut_ptr] &mut [u8]) -> RelaxedAnswer = jitamoro_relax;
 
-    fn pass_step(pass: Pass, [as_mut_ptr] &mut [u8]) -> StepAnswer = jitamoro_pass_step;
+    fn pass_step(pass: &mut Pass, [as_mut_ptr] &mut [u8]) -> StepAnswer = jitamoro_pass_step;
 }

@@ -37,7 +37,6 @@ fn relaxing() {
 
 #[test]
 fn the_pass() {
-    layout!(Pass: 24, last 0, window 8, skip 16, ended 17);
-    layout!(StepAnswer: 64, pass 0, skipped 24, relaxed 32);
-    layout!(EndAnswer: 32, pass 0, refusal 24);
+    layout!(Pass: 32, last 0, window 8, pending 16, ended 24);
+    layout!(StepAnswer: 40, skipped 0, relaxed 8);
 }

@@ -33,11 +33,10 @@ impl Walk {
     fn step(&mut self, r_type: u32, offset: u64) -> Result<Step, Refusal> {
         let before = (self.pass.clone(), self.section.clone());
         let record = record(r_type, offset, 1, 0);
-        let (pass, step) = before.0.clone().step(&record, &mut self.section);
+        let step = self.pass.step(&record, &mut self.section);
         if step.is_err() {
-            assert_eq!((&pass, &self.section), (&before.0, &before.1));
+            assert_eq!((&self.pass, &self.section), (&before.0, &before.1));
         }
-        self.pass = pass;
         step
     }
 
@@ -54,9 +53,9 @@ impl Walk {
 
     /// An ending, of which a refusal must leave the pass as it is.
     fn end(&mut self) -> Result<(), Refusal> {
-        let (pass, end) = self.pass.clone().end();
-        assert_eq!(pass == self.pass, end.is_err());
-        self.pass = pass;
+        let before = self.pass.clone();
+        let end = self.pass.end();
+        assert_eq!(before == self.pass, end.is_err());
         end
     }
 }
@@ -101,44 +100,58 @@ fn an_empty_window_is_no_overlap() {
 }
 
 /// A step over a symbol that can't be interposed, in a static executable with a fixed address, as C sees it.
-fn raw_step(pass: sys::Pass, r_type: u32, section: &mut [u8], offset: u64) -> sys::StepAnswer {
+fn raw_step(pass: &mut sys::Pass, r_type: u32, section: &mut [u8], offset: u64) -> sys::StepAnswer {
     sys::pass_step(pass, r_type, section, offset, 1, 0, true, 0, -4)
 }
 
-/// No two fields of one type are equal, so that none can stand in another's place.
-#[test]
-fn every_field_of_a_pass() {
-    let pass = |last, window, skip, ended| sys::Pass {
+fn pass(last: u64, window: u64, pending: u64, ended: u64) -> sys::Pass {
+    sys::Pass {
         last,
         window,
-        skip,
+        pending,
         ended,
-    };
+    }
+}
+
+/// No two words that aren't 0 are equal, so that none can stand in another's place.
+#[test]
+fn every_field_of_a_pass() {
     let mut section = bytes(SECTION);
-    let fresh = sys::jitamoro_pass_fresh();
-    assert_eq!(fresh, pass(0, 0, false, false));
-    let sequence = raw_step(fresh, 19, &mut section, 4);
-    assert_eq!(sequence.pass, pass(4, 12, true, false));
+    let mut walked = sys::jitamoro_pass_fresh();
+    assert_eq!(walked, pass(0, 0, 0, 0));
+    let sequence = raw_step(&mut walked, 19, &mut section, 4);
+    assert_eq!(walked, pass(4, 12, 1, 0));
     assert!(sequence.relaxed.choice.chosen && !sequence.skipped);
-    let skipped = raw_step(sequence.pass, 4, &mut section, 14);
-    assert_eq!(skipped.pass, pass(14, 12, false, false));
-    assert!(skipped.skipped);
-    let refused = sys::jitamoro_pass_end(sequence.pass);
-    assert_eq!((refused.pass, refused.refusal), (sequence.pass, 24));
-    let ended = sys::jitamoro_pass_end(skipped.pass);
-    assert_eq!((ended.pass, ended.refusal), (pass(14, 12, false, true), 0));
-    // Passes that no walk hands out: each field is read as what it is called.
-    let far = raw_step(pass(3, 1 << 40, true, false), 1, &mut section, 5);
-    assert_eq!(
-        (far.pass, far.skipped),
-        (pass(5, 1 << 40, false, false), true)
-    );
-    for (given, refusal) in [
-        (pass(1 << 40, 3, true, false), 22),
-        (pass(7, 9, false, true), 21),
-    ] {
-        let refused = raw_step(given, 1, &mut section, 5);
-        assert_eq!(refused.pass, given);
-        assert_eq!(refused.relaxed.choice.refusal, refusal);
+    assert_eq!(sys::jitamoro_pass_end(&mut walked), 24);
+    assert_eq!(walked, pass(4, 12, 1, 0));
+    assert!(raw_step(&mut walked, 4, &mut section, 14).skipped);
+    assert_eq!(walked, pass(14, 12, 0, 0));
+    assert_eq!(sys::jitamoro_pass_end(&mut walked), 0);
+    assert_eq!(walked, pass(14, 12, 0, 1));
+}
+
+/// Passes that no walk leaves: each word is read as what it is called, and any but 0 is a yes.
+#[test]
+fn any_words_are_a_pass() {
+    let mut section = bytes(SECTION);
+    for yes in [1, 7, 255, 256, 1 << 32, 1 << 63, u64::MAX] {
+        let mut far = pass(3, 1 << 40, yes, 0);
+        assert_eq!(sys::jitamoro_pass_end(&mut far), 24);
+        assert_eq!(far, pass(3, 1 << 40, yes, 0));
+        assert!(raw_step(&mut far, 1, &mut section, 5).skipped);
+        assert_eq!(far, pass(5, 1 << 40, 0, 0));
+        for (given, refusal) in [
+            (pass(1 << 40, 3, yes, 0), 22),
+            (pass(7, 9, 0, yes), 21),
+            (pass(1 << 40, 9, yes, yes), 21),
+        ] {
+            let mut refused = given;
+            let answer = raw_step(&mut refused, 1, &mut section, 5);
+            assert_eq!(answer.relaxed.choice.refusal, refusal);
+            assert_eq!(refused, given);
+        }
+        let mut ended = pass(7, 9, yes, yes);
+        assert_eq!(sys::jitamoro_pass_end(&mut ended), 21);
+        assert_eq!(ended, pass(7, 9, yes, yes));
     }
 }

@@ -4,7 +4,6 @@ use crate::relaxation;
 use crate::relaxation::REX_ADD;
 use crate::relaxation::Record;
 use jitamoro::sys::ChoiceAnswer;
-use jitamoro::sys::EndAnswer;
 use jitamoro::sys::Pass;
 use jitamoro::sys::RelaxedAnswer;
 use jitamoro::sys::StepAnswer;
@@ -34,19 +33,15 @@ const WINDOWS: [(i64, i64); 19] = [
 const REX_ADD_WITH_6: (i64, i64) = (-5, 0);
 
 /// One record. The section isn't copied but where the windows overlap.
-pub fn step(pass: Pass, record: &Record, section: &mut [u8]) -> StepAnswer {
-    let refusal = refusal_before_skip(&pass, record, section.len());
+pub fn step(pass: &mut Pass, record: &Record, section: &mut [u8]) -> StepAnswer {
+    let refusal = refusal_before_skip(pass, record, section.len());
     if refusal != 0 {
-        return refused(pass, refusal);
+        return refused(refusal);
     }
-    let mut next = Pass {
-        last: record.offset,
-        ..pass
-    };
-    if pass.skip {
-        next.skip = false;
+    if pass.pending != 0 {
+        pass.last = record.offset;
+        pass.pending = 0;
         return StepAnswer {
-            pass: next,
             skipped: true,
             ..Default::default()
         };
@@ -56,39 +51,38 @@ pub fn step(pass: Pass, record: &Record, section: &mut [u8]) -> StepAnswer {
         // The bytes are thrown away: wild only says whether it panics.
         let relaxed = relaxation::relax(record, &mut section.to_vec());
         let inside = relaxed.choice.refusal == 0;
-        return refused(pass, if inside { 23 } else { 6 });
+        return refused(if inside { 23 } else { 6 });
     }
     let relaxed = relaxation::relax(record, section);
     if relaxed.choice.refusal != 0 {
-        return refused(pass, relaxed.choice.refusal);
+        return refused(relaxed.choice.refusal);
     }
+    pass.last = record.offset;
     if let Some((_, end)) = window {
-        next.window = u64::try_from(end).unwrap();
+        pass.window = u64::try_from(end).unwrap();
     }
-    next.skip = relaxed.choice.skip_next;
+    pass.pending = u64::from(relaxed.choice.skip_next);
     StepAnswer {
-        pass: next,
         skipped: false,
         relaxed,
     }
 }
 
-pub fn end(pass: Pass) -> EndAnswer {
-    let refusal = match pass {
-        Pass { ended: true, .. } => 21,
-        Pass { skip: true, .. } => 24,
-        _ => 0,
-    };
-    let ended = pass.ended || refusal == 0;
-    EndAnswer {
-        pass: Pass { ended, ..pass },
-        refusal,
+/// 0, or refusal 21 or 24.
+pub fn end(pass: &mut Pass) -> u8 {
+    if pass.ended != 0 {
+        return 21;
     }
+    if pass.pending != 0 {
+        return 24;
+    }
+    pass.ended = 1;
+    0
 }
 
 /// Refusals 21, 1 to 4 and 22, or 0.
 fn refusal_before_skip(pass: &Pass, record: &Record, length: usize) -> u8 {
-    if pass.ended {
+    if pass.ended != 0 {
         return 21;
     }
     match record.refusal(length) {
@@ -97,13 +91,12 @@ fn refusal_before_skip(pass: &Pass, record: &Record, length: usize) -> u8 {
     }
 }
 
-fn refused(pass: Pass, refusal: u8) -> StepAnswer {
+fn refused(refusal: u8) -> StepAnswer {
     let choice = ChoiceAnswer {
         refusal,
         ..Default::default()
     };
     StepAnswer {
-        pass,
         skipped: false,
         relaxed: RelaxedAnswer {
             choice,

@@ -53,12 +53,12 @@ impl<'a> Relaxed<'a> {
         self.take(record, &answer)
     }
 
-    fn step(&mut self, pass: sys::Pass, case: &Case, record: &'a Record) -> Result<sys::Pass, u8> {
+    fn step(&mut self, pass: &mut sys::Pass, case: &Case, record: &'a Record) -> Result<(), u8> {
         let answer = call!(sys::pass_step, pass; &mut self.section, case, record);
-        if !answer.skipped {
-            self.take(record, &answer.relaxed)?;
+        if answer.skipped {
+            return Ok(());
         }
-        Ok(answer.pass)
+        self.take(record, &answer.relaxed)
     }
 }
 
@@ -77,9 +77,9 @@ pub fn relax(case: &Case) -> Result<Relaxed<'_>, u8> {
     }
     let mut pass = sys::jitamoro_pass_fresh();
     for record in &case.records {
-        pass = relaxed.step(pass, case, record)?;
+        relaxed.step(&mut pass, case, record)?;
     }
-    match sys::jitamoro_pass_end(pass).refusal {
+    match sys::jitamoro_pass_end(&mut pass) {
         0 => Ok(relaxed),
         refusal => Err(refusal),
     }

@@ -46,25 +46,24 @@ impl Comparison {
         let (mut port_pass, mut rust_pass) =
             (jitamoro::sys::jitamoro_pass_fresh(), Pass::default());
         for record in &linked.records {
-            let port_answer = ask_port!(pass_step, record, &mut port, port_pass);
-            let rust_answer = pass::step(rust_pass, record, &mut rust);
-            self.compare(port_answer, rust_answer, || {
+            let port_answer = ask_port!(pass_step, record, &mut port, &mut port_pass);
+            let rust_answer = pass::step(&mut rust_pass, record, &mut rust);
+            self.compare((port_answer, port_pass), (rust_answer, rust_pass), || {
                 describe("pass", linked.object, linked.section, record)
             });
             self.tally.count_step(record, &rust_answer);
-            (port_pass, rust_pass) = (port_answer.pass, rust_answer.pass);
         }
         self.compare_bytes("pass", linked, &port, &rust);
-        let port_end = jitamoro::sys::jitamoro_pass_end(port_pass);
-        let rust_end = pass::end(rust_pass);
-        self.compare(port_end, rust_end, || {
+        let port_end = jitamoro::sys::jitamoro_pass_end(&mut port_pass);
+        let rust_end = pass::end(&mut rust_pass);
+        self.compare((port_end, port_pass), (rust_end, rust_pass), || {
             format!(
                 "end of the pass, {}, {}",
                 linked.object, linked.section.name
             )
         });
         let output_kind = linked.records[0].output_kind;
-        self.tally.count_end(output_kind, rust_end.refusal);
+        self.tally.count_end(output_kind, rust_end);
     }
 
     /// Whole sections; the first byte that differs is shown.

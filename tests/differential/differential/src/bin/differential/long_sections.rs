@@ -4,6 +4,7 @@
 
 use crate::Comparison;
 use crate::GUARD;
+use crate::pass::Step;
 use crate::pass::port_step;
 use crate::relaxing;
 use differential::around;
@@ -13,6 +14,7 @@ use differential::relaxation::Record;
 use differential::relaxation::SECTION_LIMIT;
 use differential::sequences::SEQUENCES;
 use jitamoro::sys::Pass;
+use jitamoro::sys::StepAnswer;
 use std::fmt::Debug;
 use std::ops::Range;
 
@@ -28,6 +30,12 @@ pub const FLAGS_AND_KINDS: [(u8, u8); 8] = [
     (1, 6),
     (255, 255),
 ];
+
+/// A step from a fresh pass, and the pass then.
+fn stepped(step: Step, record: &Record, section: &mut [u8]) -> (StepAnswer, Pass) {
+    let mut pass = Pass::default();
+    (step(&mut pass, record, section), pass)
+}
 
 struct Long {
     bytes: Vec<u8>,
@@ -123,9 +131,9 @@ impl Comparison {
         self.tally.relaxing.count_choice(&rust.0.choice);
         let port = long.ask(|section| relaxing::port_relax(record, section));
         self.compare_long(long, port, rust, record);
-        let rust = long.ask(|section| pass::step(Pass::default(), record, section));
-        self.tally.pass.count_step(&rust.0);
-        let port = long.ask(|section| port_step(Pass::default(), record, section));
+        let rust = long.ask(|section| stepped(pass::step, record, section));
+        self.tally.pass.count_step(&rust.0.0);
+        let port = long.ask(|section| stepped(port_step, record, section));
         self.compare_long(long, port, rust, record);
     }
 

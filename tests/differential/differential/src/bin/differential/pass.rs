@@ -23,7 +23,7 @@ const SINGLE_STEPS: u64 = 4_000_000;
 const MOST_RECORDS: u64 = 40;
 const LONGEST: usize = MOST_RECORDS as usize * 32;
 
-pub fn port_step(pass: Pass, record: &Record, section: &mut [u8]) -> StepAnswer {
+pub fn port_step(pass: &mut Pass, record: &Record, section: &mut [u8]) -> StepAnswer {
     jitamoro::sys::pass_step(
         pass,
         record.r_type,
@@ -36,6 +36,8 @@ pub fn port_step(pass: Pass, record: &Record, section: &mut [u8]) -> StepAnswer 
         record.addend,
     )
 }
+
+pub type Step = fn(&mut Pass, &Record, &mut [u8]) -> StepAnswer;
 
 /// A walk over a list: its state, and the section between guard bytes.
 #[derive(Clone)]
@@ -50,8 +52,10 @@ impl Walk {
         &self.bytes[GUARD..GUARD + self.length]
     }
 
-    fn lent_mut(&mut self) -> &mut [u8] {
-        &mut self.bytes[GUARD..GUARD + self.length]
+    /// A step of either side.
+    fn step(&mut self, step: Step, record: &Record) -> StepAnswer {
+        let lent = &mut self.bytes[GUARD..GUARD + self.length];
+        step(&mut self.pass, record, lent)
     }
 }
 
@@ -60,15 +64,13 @@ impl Comparison {
     /// Steps on both sides, each from its own state.
     fn step_both(&mut self, port: &mut Walk, rust: &mut Walk, record: &Record) {
         let before = rust.clone();
-        let expected = pass::step(rust.pass, record, rust.lent_mut());
-        rust.pass = expected.pass;
+        let expected = rust.step(pass::step, record);
         self.tally.pass.count_step(&expected);
         if !expected.relaxed.choice.chosen {
             assert_eq!(rust.bytes, before.bytes, "the Rust writes nothing");
         }
-        let answer = port_step(port.pass, record, port.lent_mut());
-        port.pass = answer.pass;
-        self.compare((answer, &port.bytes), (expected, &rust.bytes), || {
+        let answer = (port.step(port_step, record), port.pass, &port.bytes);
+        self.compare(answer, (expected, rust.pass, &rust.bytes), || {
             format!(
                 "step, {:x?}, {record:x?}, {:x?}",
                 before.pass,
@@ -79,12 +81,12 @@ impl Comparison {
 
     fn end_both(&mut self, port: &mut Pass, rust: &mut Pass) {
         let before = *rust;
-        let expected = pass::end(before);
-        *rust = expected.pass;
-        self.tally.pass.count_end(expected.refusal);
-        let answer = jitamoro::sys::jitamoro_pass_end(*port);
-        *port = answer.pass;
-        self.compare(answer, expected, || format!("ending, {before:x?}"));
+        let expected = pass::end(rust);
+        self.tally.pass.count_end(expected);
+        let answer = jitamoro::sys::jitamoro_pass_end(port);
+        self.compare((answer, *port), (expected, *rust), || {
+            format!("ending, {before:x?}")
+        });
     }
 }
 
@@ -116,7 +118,7 @@ impl Comparison {
                 self.end_both(&mut port.pass, &mut rust.pass);
             }
             // A walk that differs once goes on differing; one that is ended is soon left.
-            if self.differences != differences || rust.pass.ended && dice.one_in(3) {
+            if self.differences != differences || rust.pass.ended != 0 && dice.one_in(3) {
                 return;
             }
         }
@@ -253,11 +255,17 @@ impl Comparison {
             3..6 => offset.wrapping_add(dice.roll(12)).wrapping_sub(8),
             _ => dice.roll(8),
         };
+        let other = self.random.word();
+        let mut one_in = |sides: u64| match dice.roll(2 * sides) {
+            0 => 1,
+            1 => other,
+            _ => 0,
+        };
         Pass {
             last,
             window,
-            skip: dice.one_in(4),
-            ended: dice.one_in(8),
+            pending: one_in(4),
+            ended: one_in(8),
         }
     }
 }
@@ -268,10 +276,10 @@ fn states() -> impl Iterator<Item = Pass> {
     let places =
         (offset - 1..=offset + 1).flat_map(move |last| (0..offset + 3).map(move |it| (last, it)));
     places.flat_map(|(last, window)| {
-        [(false, false), (false, true), (true, false), (true, true)].map(|(skip, ended)| Pass {
+        [(0, 0), (0, 1), (1, 0), (1, 1), (0, 1 << 32), (1 << 63, 0)].map(|(pending, ended)| Pass {
             last,
             window,
-            skip,
+            pending,
             ended,
         })
     })
