@@ -1,22 +1,28 @@
 //! Times the port against wild's Rust: one driver, the same inputs, both called through a pointer
-//! to an `extern "C"` function, but for the pass (`real.rs`). Buffers aren't cleared between calls.
-//! No figure passes or fails. `bench [ARCHIVE ..]`: the archives are those whose records are walked.
+//! to an `extern "C"` function, but for the pass over whole sections (`real.rs`). Buffers aren't
+//! cleared between calls. No figure passes or fails.
+//!
+//! - `bench [--counts] [ARCHIVE ..]` times every case, and with `--counts` has valgrind count the
+//!   instructions too. The archives are those whose records are walked.
+//! - `bench --case NAME SIDE CALLS [ARCHIVE ..]` makes one case's inputs and does so many of one
+//!   side's calls, inside `measured` and once. This is what valgrind is given.
 
+mod driver;
 mod real;
 mod relaxing;
 
 use differential::KNOWN_TYPES;
 use differential::Random;
+use driver::Driver;
+use driver::Inputs;
+use driver::elapsed;
 use libwild::oracle;
 use libwild::oracle::RelocationKindInfo;
 use std::hint::black_box;
 use std::slice;
 use std::time::Duration;
-use std::time::Instant;
 
 const SEED: u64 = 1;
-/// Rounds in which both are timed, by turns. An odd number, so that there is a middle one.
-const ROUNDS: usize = 31;
 /// Inputs of a lookup or PLT round.
 const INPUTS: usize = 1 << 18;
 /// The longest padding.
@@ -51,124 +57,113 @@ unsafe extern "C" fn rust_fill_section_padding(start: *mut u8, len: usize, execu
 }
 
 fn main() {
-    println!("ns a call, median (min..max) of {ROUNDS} rounds");
-    let mut random = Random::new(SEED);
-    let words: Vec<usize> = (0..INPUTS).map(|_| random.word() as usize).collect();
-
-    let known: Vec<u32> = words.iter().map(|word| KNOWN_TYPES[word % 39]).collect();
-    time_lookup("lookup, the 39 types", &known);
-    let all: Vec<u32> = words.iter().map(|word| (word % 64) as u32).collect();
-    time_lookup("lookup, types 0 to 63", &all);
-
-    let mut pair = |distance: i64| {
-        let plt = random.word();
-        (plt.wrapping_add_signed(distance), plt)
-    };
-    let near: Vec<_> = words
-        .iter()
-        .map(|&word| pair(word as i32 as i64 / 2))
-        .collect();
-    time_plt("PLT, in reach", &near);
+    let driver = Driver::from_arguments();
+    time_lookup(&driver, "lookup, the 39 types", |word| {
+        KNOWN_TYPES[word as usize % 39]
+    });
+    time_lookup(&driver, "lookup, types 0 to 63", |word| (word % 64) as u32);
+    time_plt(&driver, "PLT, in reach", |word| word as i32 as i64 / 2);
     // Here the Rust makes an error with a message.
-    let far: Vec<_> = words
-        .iter()
-        .map(|&word| pair(i64::MAX - word as i32 as i64))
-        .collect();
-    time_plt("PLT, out of reach", &far);
-
+    time_plt(&driver, "PLT, out of reach", |word| {
+        i64::MAX - word as i32 as i64
+    });
     for length in [0, 1, 7, 16, 64, LONGEST] {
-        time_padding(length);
+        time_padding(&driver, length);
     }
-    relaxing::time_all(&mut random);
-    for archive in std::env::args().skip(1) {
-        real::time_archive(&archive);
+    relaxing::time_all(&driver);
+    for archive in driver.archives() {
+        real::time_archive(&driver, archive);
     }
+    driver.finish();
 }
 
-fn time_lookup(name: &str, types: &[u32]) {
-    let port = || elapsed(|| look_up(jitamoro::sys::jitamoro_relocation_from_raw, types));
-    let rust = || elapsed(|| look_up(rust_relocation_from_raw, types));
-    time(name, types.len(), port, rust);
+fn time_lookup(driver: &Driver, name: &str, r_type: impl Fn(u64) -> u32) {
+    let make = || -> Vec<u32> {
+        let mut random = Random::new(SEED);
+        (0..INPUTS).map(|_| r_type(random.word())).collect()
+    };
+    driver.case(
+        name,
+        1,
+        make,
+        |types, calls| look_up(jitamoro::sys::jitamoro_relocation_from_raw, &types[..calls]),
+        |types, calls| look_up(rust_relocation_from_raw, &types[..calls]),
+    );
 }
 
-fn look_up<T>(function: extern "C" fn(u32) -> T, types: &[u32]) {
+fn look_up<T>(function: extern "C" fn(u32) -> T, types: &[u32]) -> Duration {
     let function = black_box(function);
-    for &r_type in types {
-        black_box(&function(r_type));
-    }
+    elapsed(|| {
+        for &r_type in types {
+            black_box(&function(r_type));
+        }
+    })
 }
 
-fn time_plt(name: &str, pairs: &[(u64, u64)]) {
-    let port = || elapsed(|| write_entries(jitamoro::sys::jitamoro_write_plt_entry, pairs));
-    let rust = || elapsed(|| write_entries(rust_write_plt_entry, pairs));
-    time(name, pairs.len(), port, rust);
+/// `distance` is that of a GOT entry from a PLT entry that lies anywhere.
+fn time_plt(driver: &Driver, name: &str, distance: impl Fn(u64) -> i64) {
+    let make = || -> Vec<(u64, u64)> {
+        let mut random = Random::new(SEED);
+        let pair = |_| {
+            let plt = random.word();
+            (plt.wrapping_add_signed(distance(random.word())), plt)
+        };
+        (0..INPUTS).map(pair).collect()
+    };
+    driver.case(
+        name,
+        1,
+        make,
+        |pairs, calls| write_entries(jitamoro::sys::jitamoro_write_plt_entry, &pairs[..calls]),
+        |pairs, calls| write_entries(rust_write_plt_entry, &pairs[..calls]),
+    );
 }
 
-fn write_entries(function: WritePltEntry, pairs: &[(u64, u64)]) {
+fn write_entries(function: WritePltEntry, pairs: &[(u64, u64)]) -> Duration {
     let function = black_box(function);
     let mut entry = [0; 16];
-    for &(got, plt) in pairs {
-        // SAFETY: a whole buffer, by its pointer and length.
-        black_box(unsafe { function(entry.as_mut_ptr(), entry.len(), got, plt) });
-        black_box(&mut entry);
+    elapsed(|| {
+        for &(got, plt) in pairs {
+            // SAFETY: a whole buffer, by its pointer and length.
+            black_box(unsafe { function(entry.as_mut_ptr(), entry.len(), got, plt) });
+            black_box(&mut entry);
+        }
+    })
+}
+
+/// A padding's length. There are fewer calls where it is great.
+struct Padding(usize);
+
+impl Inputs for Padding {
+    fn calls(&self) -> usize {
+        INPUTS / (1 + self.0 / 64)
     }
 }
 
-fn time_padding(length: usize) {
-    let calls = INPUTS / (1 + length / 64);
-    let port = || elapsed(|| fill(jitamoro::sys::jitamoro_fill_section_padding, length, calls));
-    let rust = || elapsed(|| fill(rust_fill_section_padding, length, calls));
-    time(&format!("padding, {length} bytes"), calls, port, rust);
+fn time_padding(driver: &Driver, length: usize) {
+    driver.case(
+        &format!("padding, {length} bytes"),
+        1,
+        || Padding(length),
+        |it, calls| fill(jitamoro::sys::jitamoro_fill_section_padding, it, calls),
+        |it, calls| fill(rust_fill_section_padding, it, calls),
+    );
 }
 
 /// Fills as for an executable section and for another by turns.
-fn fill(function: FillSectionPadding, length: usize, calls: usize) {
+fn fill(
+    function: FillSectionPadding,
+    &mut Padding(length): &mut Padding,
+    calls: usize,
+) -> Duration {
     let function = black_box(function);
     // Real memory also where the length is 0: `memset` is slow at the pointer of an empty `Vec`.
     let mut buffer = [0; LONGEST];
-    for call in 0..calls {
-        // SAFETY: the first `length` bytes of a buffer that is no shorter.
-        unsafe { function(buffer.as_mut_ptr(), length, call % 2 == 0) };
-        black_box(&mut buffer);
-    }
-}
-
-fn time(name: &str, calls: usize, port: impl Fn() -> Duration, rust: impl Fn() -> Duration) {
-    time_pair(name, ["port", "Rust"], calls, port, rust);
-}
-
-/// Prints the ns a call of two passes and their ratio.
-fn time_pair(
-    name: &str,
-    [a, b]: [&str; 2],
-    calls: usize,
-    pass_a: impl Fn() -> Duration,
-    pass_b: impl Fn() -> Duration,
-) {
-    let per_call = |time: Duration| time.as_nanos() as f64 / calls as f64;
-    let figures = (0..ROUNDS).map(|round| {
-        // Each goes first in every second round.
-        let (a, b) = if round % 2 == 0 {
-            let a = per_call(pass_a());
-            (a, per_call(pass_b()))
-        } else {
-            let b = per_call(pass_b());
-            (per_call(pass_a()), b)
-        };
-        [a, b, a / b]
-    });
-    let figures: Vec<_> = figures.collect();
-    let [of_a, of_b, ratio] = [0, 1, 2].map(|which| {
-        let mut column: Vec<f64> = figures.iter().map(|row| row[which]).collect();
-        column.sort_by(f64::total_cmp);
-        let [low, middle, high] = [0, ROUNDS / 2, ROUNDS - 1].map(|place| column[place]);
-        format!("{middle:.2} ({low:.2}..{high:.2})")
-    });
-    println!("{name:<31} {a} {of_a:<24} {b} {of_b:<24} {a}/{b} {ratio}");
-}
-
-fn elapsed(pass: impl FnOnce()) -> Duration {
-    let start = Instant::now();
-    pass();
-    start.elapsed()
+    elapsed(|| {
+        for call in 0..calls {
+            // SAFETY: the first `length` bytes of a buffer that is no shorter.
+            unsafe { function(buffer.as_mut_ptr(), length, call % 2 == 0) };
+            black_box(&mut buffer);
+        }
+    })
 }

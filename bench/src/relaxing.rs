@@ -1,10 +1,11 @@
 //! Times choosing, rewriting and relaxing. Every record has bytes of its own, or those of its real
-//! section; all are put back before each pass, outside the time. The port is given document 01's numbers, wild its own types,
-//! made of them before.
+//! section; all are put back before each run, outside the time. The port is given document 01's
+//! numbers, wild its own types, made of them before.
 
-use crate::elapsed;
-use crate::time;
-use crate::time_pair;
+use crate::SEED;
+use crate::driver::Driver;
+use crate::driver::Inputs;
+use crate::driver::elapsed;
 use differential::Random;
 use differential::relaxation;
 use differential::relaxation::KIND_NAMES;
@@ -13,7 +14,7 @@ use differential::relaxation::Record;
 use differential::relaxation::SECTION_LIMIT;
 use differential::sequences::SEQUENCES;
 use differential::sequences::Sequence;
-use jitamoro::sys::MovedAnswer;
+use jitamoro::sys;
 use libwild::oracle;
 use libwild::oracle::OutputKind;
 use libwild::oracle::Relaxation;
@@ -21,15 +22,14 @@ use libwild::oracle::RelaxationKind;
 use libwild::oracle::RelocationKind;
 use libwild::oracle::RelocationModifier;
 use libwild::oracle::ValueFlags;
-use std::cell::RefCell;
 use std::hint::black_box;
 use std::slice;
 use std::time::Duration;
 
-/// Records of a pass: too many for a CPU to learn their order, few enough for its cache.
+/// Records of a run: too many for a CPU to learn their order, few enough for its cache.
 const RECORDS: usize = 1 << 13;
-/// Passes of a round.
-const PASSES: usize = 16;
+/// Runs of a round.
+pub const RUNS: usize = 16;
 /// The bytes of a record, and where its offset stands in them.
 const SHARE: usize = 64;
 const OFFSET: usize = 24;
@@ -37,6 +37,10 @@ const OFFSET: usize = 24;
 /// Choosing, where `P` is `*const u8`, or relaxing, where it is `*mut u8`. `F` and `K` are how flags
 /// and output kinds are given.
 type Ask<P, F, K, T> = unsafe extern "C" fn(u32, P, usize, u64, F, K, bool, u64, i64) -> T;
+/// Rewriting, by the port's numbers and by wild's type.
+type PortApply<T> = unsafe extern "C" fn(u8, u8, *mut u8, usize, u64, i64) -> T;
+#[allow(improper_ctypes_definitions)]
+type RustApply<T> = unsafe extern "C" fn(RelaxationKind, *mut u8, usize, u64, i64) -> T;
 
 /// The port's fields from wild. Two stay as wild has them: the kind with its instruction offset,
 /// and for the new type the kind of its row.
@@ -53,6 +57,14 @@ struct RustChoice {
 #[repr(C)]
 struct RustRelaxed {
     choice: RustChoice,
+    offset: u64,
+    addend: i64,
+}
+
+/// As the port's, with room for a refusal, which wild hasn't.
+#[repr(C)]
+struct RustMoved {
+    refusal: u8,
     offset: u64,
     addend: i64,
 }
@@ -158,11 +170,11 @@ unsafe extern "C" fn rust_apply(
     len: usize,
     mut offset: u64,
     mut addend: i64,
-) -> MovedAnswer {
+) -> RustMoved {
     // SAFETY: the driver lends a whole section.
     let section = unsafe { slice::from_raw_parts_mut(start, len) };
     kind.apply(section, &mut offset, &mut addend);
-    MovedAnswer {
+    RustMoved {
         refusal: 0,
         offset,
         addend,
@@ -203,7 +215,7 @@ fn cases() -> Vec<Case> {
 /// as they lie in real objects.
 pub struct Pool {
     bytes: Vec<u8>,
-    /// Where the records' bytes begin, and what they hold before a pass.
+    /// Where the records' bytes begin, and what they hold before a run.
     first: usize,
     before: Vec<u8>,
     inputs: Vec<Input>,
@@ -296,8 +308,8 @@ impl Pool {
     }
 
     /// The time of the calls alone.
-    fn run(&mut self, call: impl Fn(&Input, *mut u8)) -> Duration {
-        self.run_all(|inputs, bytes| {
+    fn run(&mut self, calls: usize, call: impl Fn(&Input, *mut u8)) -> Duration {
+        self.run_all(calls, |inputs, bytes| {
             let bytes = bytes.as_mut_ptr();
             for input in inputs {
                 // SAFETY: the section starts inside the bytes.
@@ -306,28 +318,29 @@ impl Pool {
         })
     }
 
-    /// The time of the walks alone, each over all inputs and bytes.
-    pub fn run_all(&mut self, walk: impl Fn(&[Input], &mut [u8])) -> Duration {
-        let shares = self.first..self.first + self.before.len();
-        let pass = |_| {
-            self.bytes[shares.clone()].copy_from_slice(&self.before);
-            let time = elapsed(|| walk(&self.inputs, &mut self.bytes));
-            black_box(&mut self.bytes);
-            time
-        };
-        (0..PASSES).map(pass).sum()
+    /// The time of a walk alone, over the first inputs and all bytes.
+    pub fn run_all(&mut self, calls: usize, walk: impl Fn(&[Input], &mut [u8])) -> Duration {
+        self.put_back();
+        let time = elapsed(|| walk(&self.inputs[..calls], &mut self.bytes));
+        black_box(&mut self.bytes);
+        time
     }
 
-    /// The bytes after one walk.
-    pub fn walked(&mut self, walk: impl Fn(&[Input], &mut [u8])) -> Vec<u8> {
-        self.bytes.copy_from_slice(&self.before);
+    /// The bytes after a walk over all inputs.
+    pub fn walked(&mut self, mut walk: impl FnMut(&[Input], &mut [u8])) -> Vec<u8> {
+        self.put_back();
         walk(&self.inputs, &mut self.bytes);
         self.bytes.clone()
     }
 
-    /// The calls of a round.
-    pub fn calls(&self) -> usize {
-        self.inputs.len() * PASSES
+    fn put_back(&mut self) {
+        self.bytes[self.first..][..self.before.len()].copy_from_slice(&self.before);
+    }
+}
+
+impl Inputs for Pool {
+    fn calls(&self) -> usize {
+        self.inputs.len()
     }
 }
 
@@ -335,10 +348,11 @@ fn ask_all<P, F, K, T>(
     function: Ask<P, F, K, T>,
     pointer: impl Fn(*mut u8) -> P,
     given: impl Fn(&Input) -> (F, K),
-    pool: &RefCell<Pool>,
+    pool: &mut Pool,
+    calls: usize,
 ) -> Duration {
     let function = black_box(function);
-    pool.borrow_mut().run(|input, section| {
+    pool.run(calls, |input, section| {
         let it = &input.record;
         let (flags, output_kind) = given(input);
         // SAFETY: a whole section, by its pointer and length.
@@ -358,42 +372,37 @@ fn ask_all<P, F, K, T>(
     })
 }
 
-fn numbers(input: &Input) -> (u8, u8) {
+/// How the port is given a record's flags and output kind.
+pub fn numbers(input: &Input) -> (u8, u8) {
     (input.record.flags, input.record.output_kind)
 }
 
-fn types(input: &Input) -> (ValueFlags, OutputKind) {
+/// How wild is.
+pub fn types(input: &Input) -> (ValueFlags, OutputKind) {
     (input.wild.flags, input.wild.output_kind)
 }
 
-fn port_relax_all(pool: &RefCell<Pool>) -> Duration {
-    ask_all(
-        jitamoro::sys::jitamoro_relax,
-        |section| section,
-        numbers,
-        pool,
-    )
+fn port_relax_all(pool: &mut Pool, calls: usize) -> Duration {
+    ask_all(sys::jitamoro_relax, |section| section, numbers, pool, calls)
 }
 
-fn port_choose_all(pool: &RefCell<Pool>) -> Duration {
+fn rust_relax_all(pool: &mut Pool, calls: usize) -> Duration {
+    ask_all(rust_relax, |section| section, types, pool, calls)
+}
+
+fn port_choose_all(pool: &mut Pool, calls: usize) -> Duration {
     let pointer = |section: *mut u8| section.cast_const();
-    ask_all(
-        jitamoro::sys::jitamoro_new_relaxation,
-        pointer,
-        numbers,
-        pool,
-    )
+    ask_all(sys::jitamoro_new_relaxation, pointer, numbers, pool, calls)
 }
 
-fn rust_choose_all(pool: &RefCell<Pool>) -> Duration {
+fn rust_choose_all(pool: &mut Pool, calls: usize) -> Duration {
     let pointer = |section: *mut u8| section.cast_const();
-    ask_all(rust_new_relaxation, pointer, types, pool)
+    ask_all(rust_new_relaxation, pointer, types, pool, calls)
 }
 
-fn port_apply_all(pool: &RefCell<Pool>) -> Duration {
-    type Apply = unsafe extern "C" fn(u8, u8, *mut u8, usize, u64, i64) -> MovedAnswer;
-    let function = black_box(jitamoro::sys::jitamoro_apply as Apply);
-    pool.borrow_mut().run(|input, section| {
+fn port_apply_all(pool: &mut Pool, calls: usize) -> Duration {
+    let function = black_box(sys::jitamoro_apply as PortApply<_>);
+    pool.run(calls, |input, section| {
         let (kind, inst_offset) = input.kind;
         let (offset, addend) = (input.record.offset, input.record.addend);
         // SAFETY: a whole section, by its pointer and length.
@@ -401,73 +410,92 @@ fn port_apply_all(pool: &RefCell<Pool>) -> Duration {
     })
 }
 
-fn rust_apply_all(pool: &RefCell<Pool>) -> Duration {
-    #[allow(improper_ctypes_definitions)]
-    type Apply = unsafe extern "C" fn(RelaxationKind, *mut u8, usize, u64, i64) -> MovedAnswer;
-    let function = black_box(rust_apply as Apply);
-    pool.borrow_mut().run(|input, section| {
+fn rust_apply_all(pool: &mut Pool, calls: usize) -> Duration {
+    let function = black_box(rust_apply as RustApply<_>);
+    pool.run(calls, |input, section| {
         let (offset, addend) = (input.record.offset, input.record.addend);
         // SAFETY: a whole section, by its pointer and length.
         black_box(&unsafe { function(input.wild.kind, section, input.length, offset, addend) });
     })
 }
 
-pub fn time_relax(name: &str, pool: &RefCell<Pool>) {
-    let port = || port_relax_all(pool);
-    let rust = || ask_all(rust_relax, |section| section, types, pool);
-    let calls = pool.borrow().calls();
-    time(name, calls, port, rust);
+pub fn time_relax(driver: &Driver, name: &str, make: impl FnOnce() -> Pool) {
+    driver.case(name, RUNS, make, port_relax_all, rust_relax_all);
 }
 
-pub fn time_choose(name: &str, pool: &RefCell<Pool>) {
-    let port = || port_choose_all(pool);
-    let rust = || rust_choose_all(pool);
-    let calls = pool.borrow().calls();
-    time(name, calls, port, rust);
+pub fn time_choose(driver: &Driver, name: &str, make: impl FnOnce() -> Pool) {
+    driver.case(name, RUNS, make, port_choose_all, rust_choose_all);
 }
 
-pub fn time_all(random: &mut Random) {
-    let cases = cases();
-    let mut pick = |from: &[Case]| from[random.word() as usize % from.len()];
-    let mut kinds: Vec<Vec<Case>> = Vec::new();
-    for kind in (0..KIND_NAMES.len() as u8).filter(|&kind| kind != REX_ADD_TO_LEA) {
-        let is_it = |case: &&Case| case.chosen.is_some_and(|(chosen, _)| chosen == kind);
-        kinds.push(cases.iter().filter(is_it).copied().collect());
-        let of_kind: Vec<Case> = (0..RECORDS).map(|_| pick(kinds.last().unwrap())).collect();
-        let name = format!("relax, {}", KIND_NAMES[usize::from(kind)]);
-        time_relax(&name, &RefCell::new(Pool::short(&of_kind)));
-    }
-    let nothing: Vec<Case> = cases
-        .into_iter()
-        .filter(|case| case.chosen.is_none())
+/// The kinds that can be chosen.
+fn kinds() -> impl Iterator<Item = u8> {
+    (0..KIND_NAMES.len() as u8).filter(|&kind| kind != REX_ADD_TO_LEA)
+}
+
+/// Those of the cases that have this kind, or none.
+fn with_kind(kind: Option<u8>) -> Vec<Case> {
+    let mut cases = cases();
+    cases.retain(|case| case.chosen.map(|(chosen, _)| chosen) == kind);
+    cases
+}
+
+fn pick(from: &[Case], random: &mut Random) -> Case {
+    from[random.word() as usize % from.len()]
+}
+
+fn picked(kind: Option<u8>) -> Pool {
+    let from = with_kind(kind);
+    let mut random = Random::new(SEED);
+    let records: Vec<Case> = (0..RECORDS).map(|_| pick(&from, &mut random)).collect();
+    Pool::short(&records)
+}
+
+/// As many of each kind, in any order.
+fn mix() -> Vec<Case> {
+    let kinds: Vec<Vec<Case>> = kinds().map(|kind| with_kind(Some(kind))).collect();
+    let mut random = Random::new(SEED);
+    let mut mix: Vec<Case> = (0..RECORDS)
+        .map(|place| pick(&kinds[place % kinds.len()], &mut random))
         .collect();
-    let none: Vec<Case> = (0..RECORDS).map(|_| pick(&nothing)).collect();
-    time_relax("relax, none", &RefCell::new(Pool::short(&none)));
-
-    let kind_at = |place: usize| &kinds[place % kinds.len()];
-    let mut mix: Vec<Case> = (0..RECORDS).map(|place| pick(kind_at(place))).collect();
-    shuffle(&mut mix, random);
-    time_mix(&mix);
-}
-
-fn shuffle(cases: &mut [Case], random: &mut Random) {
-    for end in (1..cases.len()).rev() {
-        cases.swap(end, random.word() as usize % (end + 1));
+    for end in (1..mix.len()).rev() {
+        mix.swap(end, random.word() as usize % (end + 1));
     }
+    mix
 }
 
-fn time_mix(mix: &[Case]) {
-    let calls = RECORDS * PASSES;
-    let short = &RefCell::new(Pool::short(mix));
-    time_relax("relax, mix of kinds", short);
-    time_choose("choose, mix of kinds", short);
-    let port = || port_apply_all(short);
-    let rust = || rust_apply_all(short);
-    time("apply, mix of kinds", calls, port, rust);
-    let long = &RefCell::new(Pool::long(mix));
-    time_relax("relax, mix, 256 MiB section", long);
-    let of_long = || port_relax_all(long);
-    let of_short = || port_relax_all(short);
-    let names = ["256 MiB", "64 B"];
-    time_pair("relax, mix, port alone", names, calls, of_long, of_short);
+pub fn time_all(driver: &Driver) {
+    for kind in kinds() {
+        let name = format!("relax, {}", KIND_NAMES[usize::from(kind)]);
+        time_relax(driver, &name, || picked(Some(kind)));
+    }
+    time_relax(driver, "relax, none", || picked(None));
+
+    let short = || Pool::short(&mix());
+    time_relax(driver, "relax, mix of kinds", short);
+    time_choose(driver, "choose, mix of kinds", short);
+    driver.case(
+        "apply, mix of kinds",
+        RUNS,
+        short,
+        port_apply_all,
+        rust_apply_all,
+    );
+    let long = || Pool::long(&mix());
+    time_relax(driver, "relax, mix, 256 MiB section", long);
+    driver.pair(
+        "relax, mix, port alone",
+        ["256 MiB", "64 B"],
+        RUNS,
+        || LongAndShort(long(), short()),
+        |it, calls| port_relax_all(&mut it.0, calls),
+        |it, calls| port_relax_all(&mut it.1, calls),
+    );
+}
+
+struct LongAndShort(Pool, Pool);
+
+impl Inputs for LongAndShort {
+    fn calls(&self) -> usize {
+        self.0.calls()
+    }
 }

@@ -1,0 +1,220 @@
+//! What is done with every case: both sides timed by turns, or one side run for valgrind.
+
+use std::cell::Cell;
+use std::env;
+use std::process;
+use std::process::Command;
+use std::time::Duration;
+
+/// Rounds in which both are timed, by turns. An odd number, so that there is a middle one.
+const ROUNDS: usize = 31;
+const USAGE: &str = "usage: bench [--counts] [ARCHIVE ..]
+       bench --case NAME SIDE CALLS [ARCHIVE ..]";
+
+/// What a case's calls are made with.
+pub trait Inputs {
+    /// The calls of one run over all of them.
+    fn calls(&self) -> usize;
+}
+
+impl<T> Inputs for Vec<T> {
+    fn calls(&self) -> usize {
+        self.len()
+    }
+}
+
+enum Task {
+    Time { counts: bool },
+    Run(One),
+}
+
+/// One side of one case, and the calls to do.
+struct One {
+    name: String,
+    side: String,
+    calls: usize,
+    done: Cell<bool>,
+}
+
+pub struct Driver {
+    task: Task,
+    archives: Vec<String>,
+}
+
+impl Driver {
+    pub fn from_arguments() -> Self {
+        let mut arguments: Vec<String> = env::args().skip(1).collect();
+        let task = match arguments.first().map(String::as_str) {
+            Some("--case") if arguments.len() >= 4 => {
+                let mut one = arguments.drain(..4).skip(1);
+                let mut next = || one.next().unwrap();
+                Task::Run(One {
+                    name: next(),
+                    side: next(),
+                    calls: next().parse().unwrap_or_else(|_| fail(USAGE)),
+                    done: Cell::new(false),
+                })
+            }
+            Some("--counts") => {
+                arguments.remove(0);
+                Task::Time { counts: true }
+            }
+            Some(option) if option.starts_with("--") => fail(USAGE),
+            _ => Task::Time { counts: false },
+        };
+        if let Task::Time { counts } = task {
+            let and = if counts { "; instructions a call" } else { "" };
+            println!(
+                "ns a call of the thread's CPU time, median (min..max) of {ROUNDS} rounds{and}"
+            );
+        }
+        Self {
+            task,
+            archives: arguments,
+        }
+    }
+
+    pub fn archives(&self) -> &[String] {
+        &self.archives
+    }
+
+    /// A case of the port and the Rust. `make` makes the inputs, where they are needed. `port` and
+    /// `rust` do so many calls, with the first inputs, and give the time; a round has `runs` of
+    /// them over all inputs.
+    pub fn case<I: Inputs>(
+        &self,
+        name: &str,
+        runs: usize,
+        make: impl FnOnce() -> I,
+        port: impl Fn(&mut I, usize) -> Duration,
+        rust: impl Fn(&mut I, usize) -> Duration,
+    ) {
+        self.pair(name, ["port", "Rust"], runs, make, port, rust);
+    }
+
+    /// The same of any two.
+    pub fn pair<I: Inputs>(
+        &self,
+        name: &str,
+        sides: [&str; 2],
+        runs: usize,
+        make: impl FnOnce() -> I,
+        run_a: impl Fn(&mut I, usize) -> Duration,
+        run_b: impl Fn(&mut I, usize) -> Duration,
+    ) {
+        let run = |side, inputs: &mut I, calls| match side {
+            0 => run_a(inputs, calls),
+            _ => run_b(inputs, calls),
+        };
+        match &self.task {
+            Task::Run(one) if one.name == name => {
+                let Some(side) = sides.iter().position(|side| *side == one.side) else {
+                    fail(&format!("{name}: the sides are {sides:?}"));
+                };
+                let mut inputs = make();
+                if one.calls > inputs.calls() {
+                    fail(&format!("{name}: there are {} calls", inputs.calls()));
+                }
+                run(side, &mut inputs, one.calls);
+                one.done.set(true);
+            }
+            Task::Run(_) => {}
+            Task::Time { counts } => {
+                let mut inputs = make();
+                let calls = inputs.calls();
+                let mut times = [[0.0; 2]; ROUNDS];
+                for (round, times) in times.iter_mut().enumerate() {
+                    // Each goes first in every second round.
+                    for side in [round % 2, 1 - round % 2] {
+                        let time: Duration = (0..runs).map(|_| run(side, &mut inputs, calls)).sum();
+                        times[side] = time.as_nanos() as f64 / (calls * runs) as f64;
+                    }
+                }
+                drop(inputs);
+                let counts = counts.then(|| sides.map(|side| self.count(name, side, calls)));
+                print(name, sides, &times, counts);
+            }
+        }
+    }
+
+    /// The instructions of a call, as callgrind counts them inside `measured`.
+    fn count(&self, name: &str, side: &str, calls: usize) -> f64 {
+        let output = Command::new("valgrind")
+            .args(["--tool=callgrind", "--callgrind-out-file=/dev/null"])
+            .arg("--toggle-collect=bench::driver::measured*")
+            .arg(env::current_exe().unwrap())
+            .args(["--case", name, side, &calls.to_string()])
+            .args(&self.archives)
+            .output()
+            .unwrap_or_else(|error| fail(&format!("valgrind: {error}")));
+        let text = String::from_utf8_lossy(&output.stderr);
+        let mut lines = text.lines();
+        let count = lines.find_map(|line| line.split_once("Collected : "));
+        match count.map(|(_, count)| count.parse::<u64>()) {
+            Some(Ok(count)) if output.status.success() => count as f64 / calls as f64,
+            _ => fail(&format!("{name}, {side}: valgrind gave no count\n{text}")),
+        }
+    }
+
+    /// After all cases.
+    pub fn finish(&self) {
+        if let Task::Run(one) = &self.task
+            && !one.done.get()
+        {
+            fail(&format!("there is no case {:?}", one.name));
+        }
+    }
+}
+
+fn fail(message: &str) -> ! {
+    eprintln!("{message}");
+    process::exit(2)
+}
+
+/// Prints the ns a call of both sides, their ratio, and the instructions if they were counted.
+fn print(name: &str, [a, b]: [&str; 2], times: &[[f64; 2]], counts: Option<[f64; 2]>) {
+    let columns: [fn(&[f64; 2]) -> f64; 3] = [|it| it[0], |it| it[1], |it| it[0] / it[1]];
+    let [of_a, of_b, ratio] = columns.map(|figure| {
+        let mut column: Vec<f64> = times.iter().map(figure).collect();
+        column.sort_by(f64::total_cmp);
+        let [low, middle, high] = [0, ROUNDS / 2, ROUNDS - 1].map(|place| column[place]);
+        format!("{middle:.2} ({low:.2}..{high:.2})")
+    });
+    let counted = counts.map_or_else(String::new, |[of_a, of_b]| {
+        format!(
+            " instructions {a} {of_a:.1} {b} {of_b:.1} {a}/{b} {:.2}",
+            of_a / of_b
+        )
+    });
+    let ratio_width = if counted.is_empty() { 0 } else { 18 };
+    println!("{name:<31} {a} {of_a:<24} {b} {of_b:<24} {a}/{b} {ratio:<ratio_width$}{counted}");
+}
+
+unsafe extern "C" {
+    /// The C library's; a `timespec` is two words.
+    fn clock_gettime(clock: i32, time: *mut [i64; 2]) -> i32;
+}
+
+const CLOCK_THREAD_CPUTIME_ID: i32 = 3;
+
+/// The CPU time of this thread.
+fn thread_time() -> Duration {
+    let mut time = [0; 2];
+    // SAFETY: there is room for a `timespec`.
+    let error = unsafe { clock_gettime(CLOCK_THREAD_CPUTIME_ID, &mut time) };
+    assert!(error == 0, "the thread's CPU time can't be had");
+    Duration::new(time[0] as u64, time[1] as u32)
+}
+
+/// The time of a loop of calls.
+pub fn elapsed(mut calls: impl FnMut()) -> Duration {
+    let start = thread_time();
+    measured(&mut calls);
+    thread_time() - start
+}
+
+/// All that is timed or counted; valgrind is given this function's name.
+#[inline(never)]
+fn measured(calls: &mut dyn FnMut()) {
+    calls();
+}
