@@ -39,7 +39,7 @@ const OUTPUT_KINDS: [&str; 6] = [
 
 /// A step. `P` is the pass, `F` and `K` are how flags and output kinds are given.
 type TakeStep<P, F, K, T> =
-    unsafe extern "C" fn(*mut P, u32, *mut u8, usize, u64, F, K, bool, u64, i64) -> T;
+    unsafe extern "C" fn(&mut P, u32, *mut u8, usize, u64, F, K, bool, u64, i64) -> T;
 
 pub fn time_archive(driver: &Driver, path: &str) {
     let path = Path::new(path);
@@ -137,7 +137,7 @@ fn step_all<P: Copy, F, K, T>(
             let mut pass = *pass;
             let it = &input.record;
             let (flags, output_kind) = given(input);
-            // SAFETY: a pass, and a whole section inside the bytes, by its pointer and length.
+            // SAFETY: a whole section inside the bytes, by its pointer and length.
             black_box(&unsafe {
                 function(
                     &mut pass,
@@ -185,15 +185,14 @@ fn port_walk(inputs: &[Input], bytes: &mut [u8]) {
         for input in inputs {
             port_step(&mut pass, input, section);
         }
-        // SAFETY: a pass.
-        black_box(unsafe { sys::jitamoro_pass_end(&mut pass) });
+        black_box(sys::jitamoro_pass_end(&mut pass));
     });
 }
 
 #[inline]
 fn port_step(pass: &mut Pass, input: &Input, section: &mut [u8]) {
     let it = &input.record;
-    // SAFETY: a pass, and a slice lent by its pointer and length.
+    // SAFETY: a slice lent by its pointer and length.
     black_box(&unsafe {
         sys::jitamoro_pass_step(
             pass,
@@ -271,7 +270,7 @@ enum Step {
 #[allow(improper_ctypes_definitions)]
 #[inline(never)]
 unsafe extern "C" fn rust_pass_step(
-    pass: *mut RustPass,
+    pass: &mut RustPass,
     r_type: u32,
     start: *mut u8,
     len: usize,
@@ -282,8 +281,8 @@ unsafe extern "C" fn rust_pass_step(
     address: u64,
     addend: i64,
 ) -> Step {
-    // SAFETY: the driver lends a pass and a whole section.
-    let (pass, section) = unsafe { (&mut *pass, slice::from_raw_parts_mut(start, len)) };
+    // SAFETY: the driver lends a whole section.
+    let section = unsafe { slice::from_raw_parts_mut(start, len) };
     let record = RustRecord {
         r_type,
         offset,
