@@ -1,6 +1,6 @@
 -- What a plain record does to a calm pass, and an ending to the words.
 -- Assumes nothing.
-use mathlib.Core.Path.{_≡_, refl}
+use mathlib.Core.Path.{_≡_, refl, sym}
 use mathlib.Core.Bool.{Bool, true, false, not, _&&_, false≢true}
 use mathlib.Core.List.{List}
 use Prim.Native.Nat.{ℕ}
@@ -21,8 +21,12 @@ use Rattle.pass.specs.Pass.{Accepted, stepping, checked, clearing, passAfter, b
 use Rattle.pass.specs.declared.End.{End}
 use Rattle.pass.specs.declared.End.the-variants.{Granted, Refused}
 use Rattle.pass.specs.Answers.{stepOf, step, endOf}
-use Rattle.plain.specs.Plain.{isPlain, chosenBy}
-use Rattle.plain.proofs.Numbers.{choice, admitted, outcome, relaxes}
+use Rattle.answers.specs.declared.RelaxedAnswer.{RelaxedAnswer}
+use Rattle.rules.specs.Meaning.{SameMeaning}
+use Rattle.rules.proofs.Theorem.{same-meaning}
+use Rattle.plain.specs.declared.Plain.the-variants.{Settled}
+use Rattle.plain.specs.Plain.{isPlain, plainOf, chosenBy}
+use Rattle.plain.proofs.Numbers.{admitted, outcome, relaxes, settled}
 use Rattle.jitamoro_pass.specs.Layout.{written, wordsAfter, stepLayout, wordsEnded, calm, at}
 
 pub as-flag : (b : Bool) → boolByte b ≡ flag b
@@ -48,19 +52,32 @@ module _ (p : Pass) (sec : List ℕ) (r : Relocation) (q : calm p (r .offset) �
   taken c = clearing still r (gives (outcome sec r plain c (eqb (r .«r_type») 2) (isS (r .«output_kind»))))
 
   by : (c : Bool) (w : List ℕ)
-      → (stepLayout (stepOf (taken c)) ≡ record { skipped = false; relaxed = relaxedLayout (relaxedOf (gives (outcome sec r plain c (eqb (r .«r_type») 2) (isS (r .«output_kind»))))) })
+      → (stepLayout (stepOf (taken c)) ≡ record { skipped = 0; relaxed = relaxedLayout (relaxedOf (gives (outcome sec r plain c (eqb (r .«r_type») 2) (isS (r .«output_kind»))))) })
       × (wordsAfter w (record { pass = passAfter still r (taken c); step = stepOf (taken c) }) ≡ written w (at (r .offset) still))
       × (bytesAfter sec (taken c) ≡ sec)
   unfolding clearing passAfter bytesAfter afterRelaxing claims
   by true w = (refl, refl, refl)
   by false w = (refl, refl, refl)
 
-  pub passed-by : (w : List ℕ)
-      → (stepLayout (step p sec r .stepped .step) ≡ record { skipped = false; relaxed = relaxedLayout (relaxedOf (relaxing linkLimit sec r)) })
+  passed-by : (w : List ℕ)
+      → (stepLayout (step p sec r .stepped .step) ≡ record { skipped = 0; relaxed = relaxedLayout (relaxedOf (relaxing linkLimit sec r)) })
       × (wordsAfter w (step p sec r .stepped) ≡ written w (at (r .offset) p))
       × (step p sec r .section ≡ sec)
   unfolding step stepping checked
   passed-by w = rw (facts .0, admitted sec r plain, facts .2, facts .1, relaxes sec r plain) (by (chosenBy r) w)
+
+-- what a caller learns of an answer that is settled
+module _ (p : Pass) (sec : List ℕ) (r : Relocation) (a : RelaxedAnswer) (e : Settled a ≡ plainOf (calm p (r .offset) && isPlain sec r) (relaxedLayout (relaxedOf (relaxing linkLimit sec r)))) (w : List ℕ) where
+  known : ((calm p (r .offset) && isPlain sec r) ≡ true) × (a ≡ relaxedLayout (relaxedOf (relaxing linkLimit sec r)))
+  known = settled _ _ a e
+
+  pub settled-step : (record { skipped = 0; relaxed = a } ≡ stepLayout (step p sec r .stepped .step))
+      × ((written w (at (r .offset) p) ≡ wordsAfter w (step p sec r .stepped))
+      × ((sec ≡ step p sec r .section) × SameMeaning sec))
+  settled-step =
+      let b = both (calm p (r .offset)) (isPlain sec r) (known .0) in
+      let h = passed-by p sec r (b .0) (b .1) w in
+      (rw (known .1) (sym (h .0)), (sym (h .1), (sym (h .2), same-meaning sec)))
 
 -- what an ending answers, and the words that it leaves
 abbrev pub Ends : List ℕ → Answer Unit → End → Type 0

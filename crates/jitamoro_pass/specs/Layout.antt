@@ -1,5 +1,5 @@
 -- A pass as the caller holds it, in four words, and what a step and an ending answer. Assumes nothing.
-use mathlib.Core.Bool.{Bool, true, false, not, _&&_}
+use mathlib.Core.Bool.{Bool, not, _&&_}
 use mathlib.Core.List.{List, [], _∷_}
 use Prim.Native.Nat.{ℕ}
 use lib.Dec.{eqb, leb}
@@ -33,14 +33,14 @@ wordsAfter w s = after (s .step) where
   after (step.Done x m) = written w (s .pass)
   after step.Skipped = written w (s .pass)
 
-abbrev answer : Bool → Relaxed → StepAnswer
+abbrev answer : ℕ → Relaxed → StepAnswer
 answer b x = record { skipped = b; relaxed = relaxedLayout x }
 
 abbrev pub stepLayout : Step → StepAnswer
-stepLayout step.Nothing = answer false relaxed.Nothing
-stepLayout (step.Done x m) = answer false (relaxed.Done x m)
-stepLayout step.Skipped = answer true relaxed.Nothing
-stepLayout (step.Refused n) = answer false (relaxed.Refused n)
+stepLayout step.Nothing = answer 0 relaxed.Nothing
+stepLayout (step.Done x m) = answer 0 (relaxed.Done x m)
+stepLayout step.Skipped = answer 1 relaxed.Nothing
+stepLayout (step.Refused n) = answer 0 (relaxed.Refused n)
 
 -- the words after an ending: a granted one only sets ended
 abbrev pub wordsEnded : List ℕ → Answer Unit → List ℕ

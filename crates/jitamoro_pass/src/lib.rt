@@ -1,14 +1,17 @@
 // Exported to C and Rust: the pass, which the caller holds in place. include/jitamoro.h says the same in C. The functions
 // take any arguments; a slice is passed as a pointer and a length.
 ghost use mathlib.Core.Path.{_≡_};
-ghost use mathlib.Core.Bool.{false};
+ghost use mathlib.Core.Bool.{_&&_};
 ghost use mathlib.Core.List.{[], _∷_};
 ghost use Rattle.rules.specs.Answer.{refusalOf};
-ghost use Rattle.rules.specs.Record.{relocation};
+ghost use Rattle.rules.specs.Record.{linkLimit, relocation};
+ghost use Rattle.rules.specs.Rewrite.{relaxing};
 ghost use Rattle.rules.specs.Meaning.{SameMeaning};
+ghost use Rattle.relax.specs.Answers.{relaxedOf};
 ghost use Rattle.answers.specs.Layout.{relaxedLayout};
 ghost use Rattle.pass.specs.Pass.{freshPass, ending};
 ghost use Rattle.pass.specs.Answers.{step};
+ghost use Rattle.plain.specs.Plain.{isPlain, plainOf};
 ghost use Rattle.jitamoro_pass.specs.Layout.{passOf, written, calm, at, wordsAfter, stepLayout, wordsEnded};
 use answers::RelaxedAnswer;
 use pass::End;
@@ -28,10 +31,11 @@ pub struct PassWords {
     pub ended: u64,
 }
 
-// Whether the record was skipped, and what relaxing answered. A refusal stands in `relaxed`.
+// Whether the record was skipped, and what relaxing answered. A refusal stands in `relaxed`. C and Rust have a bool, at
+// the first byte of `skipped`; it is a number here, so that no padding is copied.
 #[repr(C)]
 pub struct StepAnswer {
-    pub skipped: bool,
+    pub skipped: u64,
     pub relaxed: RelaxedAnswer,
 }
 
@@ -76,14 +80,21 @@ pub extern "C" fn jitamoro_pass_step(
         addend,
     };
     let before = read(pass);
-    let calm = is_calm(before, offset);
-    if calm {
-        match plain::settle(section, rel) {
-            Plain::Settled(answer) => return pass_by(pass, before, offset, answer),
-            Plain::Other => return take(pass, section, rel),
-        }
+    match settle(before, section, rel) {
+        Plain::Settled(answer) => pass_by(pass, before, offset, answer),
+        Plain::Other => take(pass, section, rel),
     }
-    take(pass, section, rel)
+}
+
+// What relaxing answers for a plain record, if the pass is calm.
+fn settle(pass: Pass, section: &[u8], rel: Relocation) -> Plain
+    ensures { λ r. ⌜ r ≡ plainOf (calm pass (rel .offset) && isPlain (now (section .entry)) rel) (relaxedLayout (relaxedOf (relaxing linkLimit (now (section .entry)) rel))) ⌝ }
+{
+    let calm = is_calm(pass, rel.offset);
+    if calm {
+        return plain::settle(section, rel);
+    }
+    Plain::Other
 }
 
 // Neither ended nor with a skip pending, and the offset doesn't fall.
@@ -95,14 +106,14 @@ fn is_calm(pass: Pass, offset: u64) -> bool
 
 // A plain record: its window is empty, so that only the last offset changes.
 fn pass_by(words: &mut [u64; 4], before: Pass, offset: u64, relaxed: RelaxedAnswer) -> StepAnswer
-    ensures { λ r. ⌜ r ≡ record { skipped = false; relaxed = relaxed } ⌝ }
+    ensures { λ r. ⌜ r ≡ record { skipped = 0; relaxed = relaxed } ⌝ }
     ensures { λ _. ⌜ now (words .exit) ≡ written (now (words .entry)) (at offset before) ⌝ }
 {
     let mut after = before;
     after.last = offset;
     write(words, after);
     StepAnswer {
-        skipped: false,
+        skipped: 0,
         relaxed: relaxed,
     }
 }
@@ -162,23 +173,23 @@ fn finish(words: &mut [u64; 4], stepped: Stepped) -> StepAnswer
     let pass = stepped.pass;
     let step = stepped.step;
     match step {
-        Step::Refused(n) => answer(false, Relaxed::Refused(n)),
+        Step::Refused(n) => answer(0, Relaxed::Refused(n)),
         Step::Nothing => {
             write(words, pass);
-            answer(false, Relaxed::Nothing)
+            answer(0, Relaxed::Nothing)
         }
         Step::Done(relaxation, moved) => {
             write(words, pass);
-            answer(false, Relaxed::Done(relaxation, moved))
+            answer(0, Relaxed::Done(relaxation, moved))
         }
         Step::Skipped => {
             write(words, pass);
-            answer(true, Relaxed::Nothing)
+            answer(1, Relaxed::Nothing)
         }
     }
 }
 
-fn answer(skipped: bool, relaxed: Relaxed) -> StepAnswer
+fn answer(skipped: u64, relaxed: Relaxed) -> StepAnswer
     ensures { λ r. ⌜ r ≡ record { skipped = skipped; relaxed = relaxedLayout relaxed } ⌝ }
 {
     StepAnswer {
