@@ -27,7 +27,7 @@ use Rattle.answers.specs.declared.RelaxedAnswer.{RelaxedAnswer}
 use Rattle.answers.specs.Layout.{choiceLayout, relaxedLayout}
 use Rattle.plain.specs.declared.Plain.{Plain}
 use Rattle.plain.specs.declared.Plain.the-variants.{Settled, Other}
-use Rattle.plain.specs.Plain.{plainNumbers, isPlain, plainOf, chosenBy, settledOf}
+use Rattle.plain.specs.Plain.{isPlain, plainOf, chosenBy, settledOf}
 
 -- the mask's bit of a flag number, by 01's letters: computed over the sixteen
 abbrev set : ℕ → ℕ → Bool
@@ -105,12 +105,6 @@ module _ (sec : List ℕ) (r : Relocation) (low : r .«r_type» < 9) (few : r .f
 
 -- ---- a plain record
 
-pub few-flags : (r : Relocation) → plainNumbers r ≡ true → r .flags ≤ 15
-few-flags r h =
-    let d = ltb (r .«r_type») 9 in
-    let e = leb (r .flags) 15 in
-    leb-true _ _ (both d e (both (d && e) (leb (r .«output_kind») 5) h .0) .1)
-
 module _ (sec : List ℕ) (r : Relocation) (p : isPlain sec r ≡ true) where
   facts : (length sec ≤ linkLimit .most) × (r .offset ≤ length sec) × (r .«r_type» < 9) × (r .flags ≤ 15) × (r .«output_kind» ≤ 5)
   facts =
@@ -118,11 +112,11 @@ module _ (sec : List ℕ) (r : Relocation) (p : isPlain sec r ≡ true) where
       let b = leb (r .offset) (length sec) in
       let d = ltb (r .«r_type») 9 in
       let e = leb (r .flags) 15 in
-      let h2 = both (a && b) (plainNumbers r) p in
+      let h4 = both (a && b && d && e) (leb (r .«output_kind») 5) p in
+      let h3 = both (a && b && d) e (h4 .0) in
+      let h2 = both (a && b) d (h3 .0) in
       let h1 = both a b (h2 .0) in
-      let h4 = both (d && e) (leb (r .«output_kind») 5) (h2 .1) in
-      let h3 = both d e (h4 .0) in
-      (leb-true _ _ (h1 .0), leb-true _ _ (h1 .1), ltb-true _ _ (h3 .0), leb-true _ _ (h3 .1), leb-true _ _ (h4 .1))
+      (leb-true _ _ (h1 .0), leb-true _ _ (h1 .1), ltb-true _ _ (h2 .1), leb-true _ _ (h3 .1), leb-true _ _ (h4 .1))
 
   abbrev pub choice : Bool → Bool → Bool → Choice
   choice c two s = cond c (chosen NoOp (cond two 4 2) (two || s)) none

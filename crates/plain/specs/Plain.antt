@@ -12,13 +12,10 @@ use Rattle.answers.specs.declared.RelaxedAnswer.{RelaxedAnswer}
 use Rattle.plain.specs.declared.Plain.{Plain}
 use Rattle.plain.specs.declared.Plain.the-variants.{Settled, Other}
 
--- of a type below 9, and refused by neither 3 nor 4
-abbrev pub plainNumbers : Relocation → Bool
-plainNumbers r = ltb (r .«r_type») 9 && leb (r .flags) 15 && leb (r .«output_kind») 5
-
--- nor by 1 or 2
+-- refused by none of 1 to 4, and of a type below 9
 abbrev pub isPlain : List ℕ → Relocation → Bool
-isPlain sec r = leb (length sec) (linkLimit .most) && leb (r .offset) (length sec) && plainNumbers r
+isPlain sec r =
+    leb (length sec) (linkLimit .most) && leb (r .offset) (length sec) && ltb (r .«r_type») 9 && leb (r .flags) 15 && leb (r .«output_kind») 5
 
 abbrev pub plainOf : Bool → RelaxedAnswer → Plain
 plainOf b a = cond b (Settled a) Other

@@ -9,7 +9,7 @@ ghost use Rattle.rules.specs.Record.{linkLimit};
 ghost use Rattle.rules.specs.Rewrite.{relaxing};
 ghost use Rattle.relax.specs.Answers.{relaxedOf};
 ghost use Rattle.answers.specs.Layout.{relaxedLayout};
-ghost use Rattle.plain.specs.Plain.{plainNumbers, isPlain, plainOf, maskOf, settledOf};
+ghost use Rattle.plain.specs.Plain.{isPlain, plainOf, maskOf, settledOf};
 use answers::ChoiceAnswer;
 use answers::RelaxedAnswer;
 use rules::Relocation;
@@ -25,21 +25,16 @@ pub fn settle(section_bytes: &[u8], rel: Relocation) -> Plain
 {
     if section_bytes.len() <= rules::section_limit() {
         if rel.offset <= section_bytes.len() as u64 {
-            let plain = has_plain_numbers(rel);
-            if plain {
-                return Plain::Settled(weighed(rel));
+            if rel.r_type < object::R_X86_64_GOTPCREL {
+                if rel.flags <= 15 {
+                    if rel.output_kind <= 5 {
+                        return Plain::Settled(weighed(rel));
+                    }
+                }
             }
         }
     }
     Plain::Other
-}
-
-// A type below 9, and neither 3 nor 4.
-fn has_plain_numbers(rel: Relocation) -> bool
-    ensures { λ r. ⌜ r ≡ plainNumbers rel ⌝ }
-{
-    let low = rel.r_type < object::R_X86_64_GOTPCREL;
-    low & (rel.flags <= 15) & (rel.output_kind <= 5)
 }
 
 // NoOp to 4 for type 2, to 2 for type 4, or none: each field weighed by whether it is chosen.
