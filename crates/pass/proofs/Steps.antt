@@ -15,8 +15,10 @@ use Rattle.rules.specs.Choose.{none, chosen, choosing}
 use Rattle.rules.specs.Rewrite.{Rewritten, Relaxed, unrelaxed, relaxed, rewrite, claims, relaxChosen, relaxing, afterRelaxing}
 use Rattle.rules.specs.Meaning.{SameMeaning}
 use Rattle.rules.proofs.Theorem.{same-meaning}
+use Rattle.elf_x86_64_relaxation.specs.declared.Relaxation.{Relaxation}
 use Rattle.elf_x86_64_relaxation.specs.declared.Choice.{Choice}
-use Rattle.elf_x86_64_relaxation.specs.Choices.{choiceOf}
+use Rattle.elf_x86_64_relaxation.specs.declared.Choice.the-variants as Choices
+use Rattle.elf_x86_64_relaxation.specs.Choices.{relaxation, choiceOf}
 use Rattle.relax.specs.Answers.{relaxedOf}
 use Rattle.pass.specs.declared.Pass.{Pass}
 use Rattle.pass.specs.declared.Stepped.{Stepped}
@@ -41,10 +43,10 @@ module _ (p : Pass) (sec : List ℕ) (r : Relocation) where
   does (Refuse n) a = refusedStep p n
   does Skip a = skippedStep p r
   does Leave a = tookStep p r 0 answer.Nothing
-  does (Relax w) a = tookStep p r w (relaxedOf a)
+  does (Relax w x) a = tookStep p r w (relaxedOf a)
 
   abbrev leaves : Verdict → Answer Relaxed → List ℕ
-  leaves (Relax w) a = afterRelaxing sec a
+  leaves (Relax w x) a = afterRelaxing sec a
   leaves (Refuse n) a = sec
   leaves Skip a = sec
   leaves Leave a = sec
@@ -58,7 +60,7 @@ module _ (p : Pass) (sec : List ℕ) (r : Relocation) where
       (k : RelaxationKind) (t : ℕ) (m : Bool) (y : Rewritten) (fit empty before : Bool)
       → isEmpty (claims k t) ≡ empty → ltb (begin (claims k t) (r .offset)) (p .window) ≡ before
       → Says (clearing p r (cond fit (gives (relaxed k t m y)) (refuses 6)))
-      (cond fit (cond empty (Relax (p .window)) (cond before (Refuse 23) (Relax (end (claims k t) (r .offset))))) (Relax (p .window)))
+      (cond fit (cond empty (Relax (p .window) (relaxation k t m)) (cond before (Refuse 23) (Relax (end (claims k t) (r .offset)) (relaxation k t m)))) (Relax (p .window) (relaxation k t m)))
       (cond fit (gives (relaxed k t m y)) (refuses 6))
   unfolding clearing passAfter bytesAfter afterRelaxing
   says-placed k t m y false empty before e b = (refl, refl)
@@ -110,3 +112,34 @@ module _ (p : Pass) (sec : List ℕ) (r : Relocation) where
       let v = verdictOf p (choiceOf (choosing linkLimit sec r)) (length sec) r in
       let a = relaxing linkLimit sec r in
       rw e (subst (λ (x : Answer Accepted). taken (does v a) (leaves v a) ≡ taken (stepped p r x) (bytesAfter sec x)) (not-ended (p .ended) rest h) (rw (s .0, s .1)), same-meaning sec)
+
+-- ---- a verdict to relax has the choice
+
+abbrev Came : Choice → Verdict → Type 0
+Came c (Relax w x) = Choices.Chosen x ≡ c
+Came c (Refuse n) = Unit {0}
+Came c Skip = Unit {0}
+Came c Leave = Unit {0}
+
+module _ (c : Choice) where
+  in-order : (below skip : Bool) (v : Verdict) → Came c v → Came c (cond below (Refuse 22) (cond skip Skip v))
+  in-order true skip v h = tt
+  in-order false true v h = tt
+  in-order false false v h = h
+
+place : (x : Relaxation) (fit empty before : Bool) (w e : ℕ) → Came (Choices.Chosen x) (cond fit (cond empty (Relax w x) (cond before (Refuse 23) (Relax e x))) (Relax w x))
+place x false empty before w e = refl
+place x true true before w e = refl
+place x true false true w e = tt
+place x true false false w e = refl
+
+came : (p : Pass) (c : Choice) (len : ℕ) (r : Relocation) → Came c (verdictOf p c len r)
+came p (Choices.Refused n) len r = tt
+came p Choices.Nothing len r = in-order Choices.Nothing (ltb (r .offset) (p .last)) (isPending p) Leave tt
+came p (Choices.Chosen x) len r =
+    let w = claims (x .kind) (x .«new_type») in
+    in-order (Choices.Chosen x) (ltb (r .offset) (p .last)) (isPending p) (placed p x len (r .offset))
+    (place x (inside w len (r .offset)) (isEmpty w) (ltb (begin w (r .offset)) (p .window)) (p .window) (end w (r .offset)))
+
+pub of-relax : (p : Pass) (c : Choice) (len : ℕ) (r : Relocation) (w : ℕ) (x : Relaxation) → verdictOf p c len r ≡ Relax w x → Choices.Chosen x ≡ c
+of-relax p c len r w x e = subst (Came c) e (came p c len r)

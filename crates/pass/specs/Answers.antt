@@ -3,11 +3,11 @@ use mathlib.Core.Bool.{false, cond}
 use mathlib.Core.List.{List}
 use Prim.Native.Nat.{ℕ}
 use lib.Dec.{ltb}
-use Rattle.x86_64_kind.specs.declared.Window.{Window}
 use Rattle.x86_64_kind.specs.Kinds.{begin, end, isEmpty, inside, skips}
 use Rattle.rules.specs.declared.Relocation.{Relocation}
 use Rattle.rules.specs.Answer.{Answer, gives, refuses}
 use Rattle.rules.specs.Rewrite.{unrelaxed, relaxed, claims}
+use Rattle.elf_x86_64_relaxation.specs.declared.Relaxation.{Relaxation}
 use Rattle.elf_x86_64_relaxation.specs.declared.Choice.{Choice}
 use Rattle.elf_x86_64_relaxation.specs.Choices.{relaxation}
 use Rattle.relax.specs.declared.Relaxed.{Relaxed}
@@ -54,12 +54,13 @@ ended p = record { pass = endedPass p (ending p); end = endOf (ending p) }
 
 -- ---- the parts of a step
 
--- 23, or the window's end once the record is relaxed; a window that isn't inside is left to relaxing
-abbrev pub placed : Pass → Window → ℕ → ℕ → Verdict
-placed p w len off =
+-- 23, or the window's end once the record is relaxed, and the choice; a window that isn't inside is left to relaxing
+abbrev pub placed : Pass → Relaxation → ℕ → ℕ → Verdict
+placed p x len off =
+    let w = claims (x .kind) (x .«new_type») in
     cond (inside w len off)
-    (cond (isEmpty w) (Relax (p .window)) (cond (ltb (begin w off) (p .window)) (Refuse 23) (Relax (end w off))))
-    (Relax (p .window))
+    (cond (isEmpty w) (Relax (p .window) x) (cond (ltb (begin w off) (p .window)) (Refuse 23) (Relax (end w off) x)))
+    (Relax (p .window) x)
 
 -- 22, then the skip
 abbrev pub inOrder : Pass → Relocation → Verdict → Verdict
@@ -69,7 +70,7 @@ inOrder p r v = cond (ltb (r .offset) (p .last)) (Refuse 22) (cond (isPending p)
 abbrev pub verdictOf : Pass → Choice → ℕ → Relocation → Verdict
 verdictOf p (choice.Refused n) len r = Refuse n
 verdictOf p choice.Nothing len r = inOrder p r Leave
-verdictOf p (choice.Chosen x) len r = inOrder p r (placed p (claims (x .kind) (x .«new_type»)) len (r .offset))
+verdictOf p (choice.Chosen x) len r = inOrder p r (placed p x len (r .offset))
 
 -- the pass and the answer by what relaxing answered, with the window's end
 abbrev pub tookStep : Pass → Relocation → ℕ → Relaxed → Stepped

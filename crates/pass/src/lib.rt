@@ -1,5 +1,5 @@
 // The pass above one record: it walks a section's records by value, and sees of choosing and of
-// relaxing one record only what they promise. A refusal hands the pass and the section back unchanged.
+// relaxing by a choice only what they promise. A refusal hands the pass and the section back unchanged.
 ghost use mathlib.Core.Path.{_≡_};
 ghost use Rattle.rules.specs.Meaning.{SameMeaning};
 ghost use Rattle.pass.specs.Pass.{freshPass};
@@ -11,7 +11,6 @@ use elf_x86_64_relaxation::Relaxation;
 use relax::Relaxed;
 use rules::Relocation;
 use x86_64_apply::Moved;
-use x86_64_kind::Window;
 
 // The last offset, the end of the last window that isn't empty, whether a skip is pending, and
 // whether the pass has ended.
@@ -45,12 +44,12 @@ pub struct Ended {
     pub end: End,
 }
 
-// What the pass says of a record whose choice is known. `Relax` holds the window's end afterwards.
+// What the pass says of a record whose choice is known. `Relax` holds the window's end afterwards, and the choice.
 enum Verdict {
     Refuse(u8),
     Skip,
     Leave,
-    Relax(u64),
+    Relax(u64, Relaxation),
 }
 
 impl Pass {
@@ -82,8 +81,8 @@ impl Pass {
             Verdict::Refuse(n) => self.refused(n),
             Verdict::Skip => self.skipped(rel),
             Verdict::Leave => self.took(rel, 0, Relaxed::Nothing),
-            Verdict::Relax(window) => {
-                let relaxed = relax::relax(section_bytes, rel);
+            Verdict::Relax(window, relaxation) => {
+                let relaxed = relax::finish(section_bytes, rel, relaxation);
                 self.took(rel, window, relaxed)
             }
         }
@@ -121,7 +120,7 @@ impl Pass {
             Choice::Refused(n) => Verdict::Refuse(n),
             Choice::Nothing => self.in_order(rel, Verdict::Leave),
             Choice::Chosen(relaxation) => {
-                let verdict = self.place(relaxation.claim(), len, rel.offset);
+                let verdict = self.place(relaxation, len, rel.offset);
                 self.in_order(rel, verdict)
             }
         }
@@ -139,24 +138,25 @@ impl Pass {
         verdict
     }
 
-    fn place(self, window: Window, len: u64, offset: u64) -> Verdict
-        ensures { λ r. ⌜ r ≡ placed self window len offset ⌝ }
+    fn place(self, relaxation: Relaxation, len: u64, offset: u64) -> Verdict
+        ensures { λ r. ⌜ r ≡ placed self relaxation len offset ⌝ }
     {
+        let window = relaxation.claim();
         let back = window.back;
         let size = window.size;
         let last = self.window;
         let inside = window.is_inside(len, offset);
         if inside {
             if size == 0 {
-                return Verdict::Relax(last);
+                return Verdict::Relax(last, relaxation);
             }
             let begin = offset - back;
             if begin < last {
                 return Verdict::Refuse(23);
             }
-            return Verdict::Relax(begin + size);
+            return Verdict::Relax(begin + size, relaxation);
         }
-        Verdict::Relax(last)
+        Verdict::Relax(last, relaxation)
     }
 
     // What relaxing answered; `window` is the window's end where a record was relaxed.

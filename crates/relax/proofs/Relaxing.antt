@@ -1,6 +1,6 @@
 -- What follows of what choosing answered: refusals and none are relaxing's own, and a choice goes through rewriting.
 -- Assumes nothing.
-use mathlib.Core.Path.{_≡_, refl, subst}
+use mathlib.Core.Path.{_≡_, refl, subst, _∙_}
 use mathlib.Core.List.{List}
 use Prim.Native.Nat.{ℕ}
 use Rattle.rules.specs.declared.Relocation.{Relocation}
@@ -17,7 +17,7 @@ use Rattle.elf_x86_64_relaxation.specs.declared.Choice.the-variants.{Nothing, C
 use Rattle.elf_x86_64_relaxation.specs.Choices.{choiceOf}
 use Rattle.x86_64_apply.specs.Apply.{appliedOf}
 use Rattle.relax.specs.declared.Relaxed.{Relaxed}
-use Rattle.relax.specs.Answers.{relaxedOf, finished}
+use Rattle.relax.specs.Answers.{relaxedOf, finished, Relaxes}
 use Rattle.rules.specs.Choose as rules
 use Rattle.relax.specs.declared.Relaxed.the-variants as relaxed
 
@@ -45,3 +45,8 @@ module _ (sec : List ℕ) (r : Relocation) where
 
   pub by-choice : (c : Choice) → c ≡ choiceOf (choosing linkLimit sec r) → Follows c
   by-choice c e = rw e (follows (choosing linkLimit sec r) refl)
+
+  -- the three clauses of `finish`
+  pub closes : (x : Relaxation) {a : Relaxed} {new : List ℕ} → a ≡ finished x (appliedOf (rewrites x)) → new ≡ afterRewriting sec (rewrites x)
+      → (a ≡ finished x (appliedOf (rewrites x))) × ((new ≡ afterRewriting sec (rewrites x)) × (Chosen x ≡ choiceOf (choosing linkLimit sec r) → Relaxes sec r a new))
+  closes x e f = (e, (f, λ h. let d = by-choice (Chosen x) h in record { answer = e ∙ d .0; bytes = f ∙ d .1 .0 }))

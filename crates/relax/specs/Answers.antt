@@ -1,6 +1,11 @@
 -- The code's answer of relaxing, as the rules have it. Assumes nothing.
+use mathlib.Core.Path.{_≡_}
+use mathlib.Core.List.{List}
+use Prim.Native.Nat.{ℕ}
+use Rattle.rules.specs.declared.Relocation.{Relocation}
+use Rattle.rules.specs.Record.{linkLimit}
 use Rattle.rules.specs.Answer.{Answer, gives, refuses}
-use Rattle.rules.specs.Rewrite.{Rewritten, unrelaxed, relaxed}
+use Rattle.rules.specs.Rewrite.{Rewritten, unrelaxed, relaxed, relaxing, afterRelaxing}
 use Rattle.elf_x86_64_relaxation.specs.declared.Relaxation.{Relaxation}
 use Rattle.elf_x86_64_relaxation.specs.Choices.{relaxation}
 use Rattle.x86_64_apply.specs.declared.Moved.{Moved}
@@ -24,3 +29,8 @@ relaxedOf (refuses n) = Refused n
 abbrev pub finished : Relaxation → Applied → Relaxed
 finished x (applied.Done m) = Done x m
 finished x (applied.Refused n) = Refused n
+
+-- an answer, and the section afterwards, are relaxing's
+pub record Relaxes (sec : List ℕ) (r : Relocation) (x : Relaxed) (new : List ℕ) : Type 0 where
+  pub answer : x ≡ relaxedOf (relaxing linkLimit sec r)
+  pub bytes : new ≡ afterRelaxing sec (relaxing linkLimit sec r)

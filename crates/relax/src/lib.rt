@@ -1,9 +1,13 @@
 // Relaxing one record: choosing, then rewriting. It sees of both only what they promise.
 ghost use mathlib.Core.Path.{_≡_};
 ghost use Rattle.rules.specs.Record.{linkLimit};
-ghost use Rattle.rules.specs.Rewrite.{relaxing, afterRelaxing};
+ghost use Rattle.rules.specs.Choose.{choosing};
+ghost use Rattle.rules.specs.Rewrite.{rewriting, afterRewriting, relaxing, afterRelaxing};
 ghost use Rattle.rules.specs.Meaning.{SameMeaning};
-ghost use Rattle.relax.specs.Answers.{relaxedOf, finished};
+ghost use Rattle.x86_64_apply.specs.Apply.{appliedOf};
+ghost use Rattle.elf_x86_64_relaxation.specs.declared.Choice.the-variants.{Chosen};
+ghost use Rattle.elf_x86_64_relaxation.specs.Choices.{choiceOf};
+ghost use Rattle.relax.specs.Answers.{relaxedOf, finished, Relaxes};
 use elf_x86_64_relaxation::Choice;
 use elf_x86_64_relaxation::Relaxation;
 use rules::Relocation;
@@ -25,18 +29,18 @@ pub fn relax(section_bytes: &mut [u8], rel: Relocation) -> Relaxed
     match elf_x86_64_new_relaxation::new_relaxation(section_bytes, rel) {
         Choice::Refused(n) => Relaxed::Refused(n),
         Choice::Nothing => Relaxed::Nothing,
-        Choice::Chosen(relaxation) => {
-            let kind = relaxation.kind;
-            let applied = x86_64_apply::apply(kind, section_bytes, rel.offset, rel.addend);
-            finish(relaxation, applied)
-        }
+        Choice::Chosen(relaxation) => finish(section_bytes, rel, relaxation),
     }
 }
 
-fn finish(relaxation: Relaxation, applied: Applied) -> Relaxed
-    ensures { λ r. ⌜ r ≡ finished relaxation applied ⌝ }
+// Rewrites by a choice, whatever it is. Where it is what choosing gives for the record, that is relaxing it.
+pub fn finish(section_bytes: &mut [u8], rel: Relocation, relaxation: Relaxation) -> Relaxed
+    ensures { λ r. ⌜ r ≡ finished relaxation (appliedOf (rewriting linkLimit (relaxation .kind) (now («section_bytes» .entry)) (rel .offset) (rel .addend))) ⌝ }
+    ensures { λ _. ⌜ now («section_bytes» .exit) ≡ afterRewriting (now («section_bytes» .entry)) (rewriting linkLimit (relaxation .kind) (now («section_bytes» .entry)) (rel .offset) (rel .addend)) ⌝ }
+    ensures { λ r. ⌜ (Chosen relaxation ≡ choiceOf (choosing linkLimit (now («section_bytes» .entry)) rel) → Relaxes (now («section_bytes» .entry)) rel r (now («section_bytes» .exit))) ⌝ }
 {
-    match applied {
+    let kind = relaxation.kind;
+    match x86_64_apply::apply(kind, section_bytes, rel.offset, rel.addend) {
         Applied::Done(moved) => Relaxed::Done(relaxation, moved),
         Applied::Refused(n) => Relaxed::Refused(n),
     }
