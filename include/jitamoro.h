@@ -30,10 +30,10 @@ extern "C" {
 
 /* ---- The version of this header and its archive, as CHANGELOG.md has it */
 
-#define JITAMORO_VERSION "0.1.1"
+#define JITAMORO_VERSION "0.2.0"
 #define JITAMORO_VERSION_MAJOR 0
-#define JITAMORO_VERSION_MINOR 1
-#define JITAMORO_VERSION_PATCH 1
+#define JITAMORO_VERSION_MINOR 2
+#define JITAMORO_VERSION_PATCH 0
 
 /* ---- Numbers */
 

@@ -27,7 +27,8 @@ use Rattle.rules.proofs.Theorem.{same-meaning}
 use Rattle.plain.specs.declared.Plain.the-variants.{Settled}
 use Rattle.plain.specs.Plain.{isPlain, plainOf, chosenBy}
 use Rattle.plain.proofs.Numbers.{admitted, outcome, relaxes, settled}
-use Rattle.jitamoro_pass.specs.Layout.{written, wordsAfter, stepLayout, wordsEnded, calm, at}
+use Rattle.jitamoro_pass.specs.Layout.{written, wordsAfter, stepLayout, wordsEnded}
+use Rattle.jitamoro_pass.specs.Parts.{calm, at}
 
 pub as-flag : (b : Bool) → boolByte b ≡ flag b
 as-flag true = refl

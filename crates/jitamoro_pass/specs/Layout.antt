@@ -1,8 +1,8 @@
 -- A pass as the caller holds it, in four words, and what a step and an ending answer. Assumes nothing.
-use mathlib.Core.Bool.{Bool, not, _&&_}
+use mathlib.Core.Bool.{not}
 use mathlib.Core.List.{List, [], _∷_}
 use Prim.Native.Nat.{ℕ}
-use lib.Dec.{eqb, leb}
+use lib.Dec.{eqb}
 use lib.ListN.{getD, set}
 use lib.Seq.{sets}
 use Rattle.rules.specs.Answer.{Answer, gives, refuses, flag}
@@ -17,8 +17,7 @@ use Rattle.relax.specs.declared.Relaxed.the-variants as relaxed
 
 -- any words are a pass: a skip is pending, and the pass has ended, where their words are not 0
 abbrev pub passOf : List ℕ → Pass
-passOf w =
-    record { last = getD w 0 0; window = getD w 1 0; skip = not (eqb (getD w 2 0) 0); ended = not (eqb (getD w 3 0) 0) }
+passOf w = record { last = getD w 0 0; window = getD w 1 0; skip = not (eqb (getD w 2 0) 0); ended = not (eqb (getD w 3 0) 0) }
 
 -- the four words written anew
 abbrev pub written : List ℕ → Pass → List ℕ
@@ -46,12 +45,3 @@ stepLayout (step.Refused n) = answer 0 (relaxed.Refused n)
 abbrev pub wordsEnded : List ℕ → Answer Unit → List ℕ
 wordsEnded w (gives u) = set w 3 1
 wordsEnded w (refuses n) = w
-
--- ---- a plain record's step
-
--- neither ended nor with a skip pending, and the offset doesn't fall
-abbrev pub calm : Pass → ℕ → Bool
-calm p off = not (p .ended) && not (p .skip) && leb (p .last) off
-
-abbrev pub at : ℕ → Pass → Pass
-at off p = record { last = off; window = p .window; skip = p .skip; ended = p .ended }

@@ -67,6 +67,3 @@ pub record SameMeaning (sec : List ℕ) : Type 0 where
       → (k : RelaxationKind) (t : ℕ) (m : Bool) (x : Rewritten) → choosing l sec r ≡ gives (chosen k t m)
       → rewriting l k sec (r .offset) (r .addend) ≡ gives x
       → EndsAlike sec r t x
-
-abbrev pub AlwaysSameMeaning : Type 0
-AlwaysSameMeaning = (sec : List ℕ) → SameMeaning sec

@@ -8,12 +8,7 @@ pub choice-answer-spec : {M : Type 1} → statement M
 choice-answer-spec =
     tie.close
     (tie.spec
-    (λ c. search needs)
-    (λ c κs. search needs)
-    (λ c. search needs)
-    (λ c κs. search needs)
-    (λ c. search needs)
-    (λ c κs. search needs)
+    (λ c. search needs) (λ c κs. search needs) (λ c. search needs) (λ c κs. search needs) (λ c. search needs) (λ c κs. search needs)
     (λ c. rw (c .before .enum-told .given .1) (c .not-chosen .ensures))
     (λ c. rw (c .before .before .choice .given .1) (c .chosen-answer .ensures))
     (λ c. rw (c .before .before .choice2 .given .1) (c .not-chosen2 .ensures)))

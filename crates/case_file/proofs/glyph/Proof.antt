@@ -9,7 +9,6 @@ pub glyph-spec : {M : Type 1} → statement M
 glyph-spec =
     tie.close
     (tie.spec
-    (λ c. search needs)
-    (λ c. search needs)
+    (λ c. search needs) (λ c. search needs)
     (λ c. simp (lt-ltb _ _ (c .if1 .taken)))
     (λ c. simp (le-ltb _ _ (c .if1 .left))))

@@ -17,8 +17,7 @@ pub put-addend-spec : {M : Type 1} → statement M
 put-addend-spec =
     tie.close
     (tie.spec
-    (λ c κs. search needs)
-    (λ c κs. search needs)
+    (λ c κs. search needs) (λ c κs. search needs)
     (λ c κs. omega (arith, c .before .before .before .before .before .before .pre))
     (λ c κs. omega (arith, c .before .before .before .before .before .before .before .before .before .before .pre, c .before .before .before .put-byte .ensures .bound, c .before .before .before .put-byte .ensures .size))
     (λ c. c .before .before .put-field .ensures .size ∙ c .before .before .before .before .before .before .put-byte .ensures .size)

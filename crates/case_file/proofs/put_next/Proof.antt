@@ -11,10 +11,7 @@ pub put-next-spec : {M : Type 1} → statement M
 put-next-spec =
     tie.close
     (tie.spec
-    (λ c κs. search needs)
-    (λ c. search needs)
-    (λ c. search needs)
-    (λ c. search needs)
+    (λ c κs. search needs) (λ c. search needs) (λ c. search needs) (λ c. search needs)
     (λ c κs. omega (arith, c .before .before .before .before .before .before .before .before .pre))
     (λ c. search needs)
     (λ c κs. let a = c .before .before .before .before .before .before .before .args in let e = sym (c .before .before .before .before .read-at .ensures) ∙ c .before .before .case .given .1 in let w = whole (a .file .now) (a .place) _ e in (w .1, w .2, omega (arith, c .before .before .before .before .before .before .before .pre, w)))

@@ -10,6 +10,5 @@ pub record-of-spec : {M : Type 1} → statement M
 record-of-spec =
     tie.close
     (tie.spec
-    (λ c. search needs)
-    (λ c κs. search needs)
+    (λ c. search needs) (λ c κs. search needs)
     (λ c. rw (toZ-ofZ {w = w64} {z = c .as-i64 .result} (sfits-of {w = w64} (c .as-i64 .ok)), c .as-i64 .ensures)))

@@ -17,14 +17,9 @@ pub relax-case-spec : {M : Type 1} → statement M
 relax-case-spec =
     tie.close
     (tie.spec
-    (λ c. search needs)
-    (λ c. search needs)
-    (λ c. search needs)
-    (λ c. search needs)
+    (λ c. search needs) (λ c. search needs) (λ c. search needs) (λ c. search needs)
     (λ c κs. let h = length-take-le (c .before .before .before .before .before .args .case .start + c .before .before .before .before .before .args .case .len - c .before .before .before .before .before .args .case .start) (drop (c .before .before .before .before .before .args .case .start) (c .before .before .before .before .before .args .file .now)) (rw (length-drop (c .before .before .before .before .before .args .case .start) (c .before .before .before .before .before .args .file .now)) (omega (arith, c .before .before .before .before .before .pre))) in omega (arith, c .before .before .before .before .before .pre, h))
-    (λ c. search needs)
-    (λ c κs. search needs)
-    (λ c. search needs)
+    (λ c. search needs) (λ c κs. search needs) (λ c. search needs)
     (λ c. let s = c .before .before .before .before .before .before .before .before .before .before .before .before .before in
     let a = s .args in
     let p = c .before .before .before .before .before .before .before .put-bytes .ensures in

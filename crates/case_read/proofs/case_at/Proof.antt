@@ -9,8 +9,8 @@ pub case-at-spec : {M : Type 1} → statement M
 case-at-spec =
     tie.close
     (tie.spec
-    (λ c. omega arith) (λ c. omega arith) (λ c. omega arith) (λ c. omega arith) (λ c. omega arith)
-    (λ c. omega arith) (λ c. omega arith) (λ c. omega arith) (λ c. omega arith)
+    (λ c. omega arith) (λ c. omega arith) (λ c. omega arith) (λ c. omega arith) (λ c. omega arith) (λ c. omega arith) (λ c. omega arith)
+    (λ c. omega arith) (λ c. omega arith)
     (λ c κs. (omega arith, lit≤ tt))
     (λ c. omega arith)
     (λ c κs. (omega arith, lit≤ tt))

@@ -11,8 +11,7 @@ unfolding choose given pick
 choose-spec =
     tie.close
     (tie.spec
-    (λ c κs. search needs)
-    (λ c κs. search needs)
+    (λ c κs. search needs) (λ c κs. search needs)
     (λ c. rw (← c .before .before .before .before .is-ifunc .ensures, c .before .before .before .if1 .taken, c .before .if2 .taken) (c .relax-to .ensures))
     (λ c. rw (← c .before .before .before .is-ifunc .ensures, c .before .before .if1 .taken, ne-eqb _ _ (c .if2 .left)))
     (λ c κs. search needs)

@@ -14,10 +14,6 @@ unfolding inRange
 in-range-spec =
     tie.close
     (tie.spec
-    (λ c κs. search needs)
-    (λ c. search needs)
-    (λ c κs. search needs)
-    (λ c κs. search needs)
-    (λ c. search needs)
+    (λ c κs. search needs) (λ c. search needs) (λ c κs. search needs) (λ c κs. search needs) (λ c. search needs)
     (λ c. rw (looked (c .before .before .before .before .before .before .args .new-type) _ (c .before .before .before .before .before .relocation-from-raw .ensures .0), c .before .before .before .info .given .1, ← c .before .as-i64 .ensures) (rw (toZ-ofZ {w = w64} (sfits-of {w = w64} (c .before .as-i64 .ok))) at (c .contains .ensures)))
     (λ c. rw (looked (c .before .before .before .args .new-type) _ (c .before .before .relocation-from-raw .ensures .0), c .enum-told .given .1)))

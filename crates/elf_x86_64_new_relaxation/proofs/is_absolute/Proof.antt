@@ -8,6 +8,5 @@ pub is-absolute-spec : {M : Type 1} → statement M
 is-absolute-spec =
     tie.close
     (tie.spec
-    (λ c κs. search needs)
-    (λ c κs. search needs)
+    (λ c κs. search needs) (λ c κs. search needs)
     (λ c. rw (c .before .is-absolute .ensures, c .is-dynamic .ensures)))

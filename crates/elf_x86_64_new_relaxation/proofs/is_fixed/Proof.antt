@@ -8,7 +8,5 @@ pub is-fixed-spec : {M : Type 1} → statement M
 is-fixed-spec =
     tie.close
     (tie.spec
-    (λ c κs. search needs)
-    (λ c κs. search needs)
-    (λ c κs. search needs)
+    (λ c κs. search needs) (λ c κs. search needs) (λ c κs. search needs)
     (λ c. rw (c .before .before .is-absolute .ensures, c .before .has-link-time-address .ensures, c .has-fixed-load-address .ensures)))

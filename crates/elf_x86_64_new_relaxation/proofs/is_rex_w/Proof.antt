@@ -13,9 +13,6 @@ is-rex-w-spec =
     tie.close
     (tie.spec
     (λ c. (rw (lt-leb _ _ (c .if1 .taken)), λ e. absurd (false≢true e)))
-    (λ c. search needs)
-    (λ c. search needs)
-    (λ c. search needs)
-    (λ c. search needs)
+    (λ c. search needs) (λ c. search needs) (λ c. search needs) (λ c. search needs)
     (λ c. (rw (le-leb _ _ (c .before .before .before .if1 .left), c .before .if2 .taken), λ e. c .before .before .before .if1 .left))
     (λ c. (rw (le-leb _ _ (c .before .before .if1 .left), ne-eqb _ _ (c .if2 .left)), λ e. c .before .before .if1 .left)))

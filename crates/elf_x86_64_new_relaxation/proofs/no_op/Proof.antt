@@ -13,6 +13,5 @@ no-op-spec =
     (tie.spec
     (λ c κs. search needs)
     (λ c. rw (local (c .before .before .args .q .flags .bits) (c .before .is-interposable .ensures), c .if1 .taken))
-    (λ c κs. search needs)
-    (λ c κs. search needs)
+    (λ c κs. search needs) (λ c κs. search needs)
     (λ c. rw (local (c .before .before .before .before .args .q .flags .bits) (c .before .before .before .is-interposable .ensures), c .before .before .if1 .left, ← c .before .is-static-executable .ensures) (c .relax-to .ensures)))

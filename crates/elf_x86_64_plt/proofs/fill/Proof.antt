@@ -11,9 +11,8 @@ pub fill-spec : {M : Type 1} → statement M
 fill-spec =
     tie.close
     (tie.spec
-    (λ c κs. search needs) (λ c κs. search needs) (λ c. search needs) (λ c κs. search needs) (λ c κs. search needs)
-    (λ c. search needs) (λ c κs. search needs) (λ c κs. search needs) (λ c. search needs) (λ c. search needs)
-    (λ c. search needs)
+    (λ c κs. search needs) (λ c κs. search needs) (λ c. search needs) (λ c κs. search needs) (λ c κs. search needs) (λ c. search needs)
+    (λ c κs. search needs) (λ c κs. search needs) (λ c. search needs) (λ c. search needs) (λ c. search needs)
     (λ c. let s = c .before .before .before .before .before .before .before .before .before .before .before .args in
     c .before .before .put2 .ensures ∙ rw (c .before .before .before .before .before .before .put .ensures) (ends 16 (s .byte) (s .buf .now) (omega arith) (omega arith)))
     (λ c. search needs)

@@ -11,8 +11,8 @@ pub fill-short-spec : {M : Type 1} → statement M
 fill-short-spec =
     tie.close
     (tie.spec
-    (λ c κs. search needs) (λ c κs. search needs) (λ c κs. search needs) (λ c κs. search needs) (λ c. search needs)
-    (λ c κs. search needs) (λ c κs. search needs) (λ c. search needs) (λ c κs. search needs) (λ c. search needs)
+    (λ c κs. search needs) (λ c κs. search needs) (λ c κs. search needs) (λ c κs. search needs) (λ c. search needs) (λ c κs. search needs)
+    (λ c κs. search needs) (λ c. search needs) (λ c κs. search needs) (λ c. search needs)
     (λ c. c .before .before .put .ensures ∙ whole (c .before .before .before .before .before .before .args .byte) (c .before .before .before .before .before .before .args .buf .now))
     (λ c. search needs)
     (λ c. let s = c .before .before .before .before .before .before .before .before .before .before .before .args in

@@ -22,8 +22,7 @@ write-plt-entry-spec =
     tie.close
     (tie.spec
     (λ c. (rw (ne-eqb _ 16 (c .if1 .taken)), (rw (ne-eqb _ 16 (c .if1 .taken)), plt-worked)))
-    (λ c κs. search needs) (λ c κs. search needs) (λ c κs. search needs) (λ c κs. search needs) (λ c κs. search needs)
-    (λ c. search needs)
+    (λ c κs. search needs) (λ c κs. search needs) (λ c κs. search needs) (λ c κs. search needs) (λ c κs. search needs) (λ c. search needs)
     (λ c. let d = c .before .before .before .before in
     let e = eq-eqb _ 16 (d .before .before .before .before .before .if1 .left) in
     (rw (e, reach (d .before), d .if2 .taken), (rw (e, reach (d .before), d .if2 .taken) (c .before .before .write-entry .ensures ∙ rw (d .before .before .before .before .plt-displacement .ensures)), plt-worked)))

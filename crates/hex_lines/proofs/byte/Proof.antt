@@ -11,7 +11,7 @@ unfolding byteAt
 byte-spec =
     tie.close
     (tie.spec
-    (λ c. search needs) (λ c. search needs) (λ c κs. search needs) (λ c. search needs) (λ c. search needs)
-    (λ c. search needs) (λ c. search needs) (λ c κs. search needs) (λ c. search needs)
+    (λ c. search needs) (λ c. search needs) (λ c κs. search needs) (λ c. search needs) (λ c. search needs) (λ c. search needs) (λ c. search needs)
+    (λ c κs. search needs) (λ c. search needs)
     (λ c. rw (lt-ltb _ _ (c .before .before .before .before .if1 .taken), c .before .before .digit .ensures .0, c .digit2 .ensures .0))
     (λ c. rw (le-ltb _ _ (c .if1 .left))))

@@ -24,8 +24,7 @@ bytes-at-spec =
     Inv-loop
     μ-loop
     (λ c. (omega arith, refl, refl))
-    (λ c κs. omega arith)
-    (λ c. search needs) (λ c. search needs)
+    (λ c κs. omega arith) (λ c. search needs) (λ c. search needs)
     (λ c. simp length-set (omega arith))
     (λ c. let d = c .before .before .loop in
     (simp length-set (omega arith), simp length-set (omega arith), rw (add-one (d .i), take-suc-set (d .out) (d .i) (c .byte-from .result) (c .before .loop-test .taken), d .inv .2, c .byte-from .ensures)))

@@ -12,6 +12,5 @@ u64-at-spec =
     tie.close
     (tie.spec
     (λ c. sym (eight-past _ _ (c .if1 .taken)))
-    (λ c κs. search needs) (λ c. search needs) (λ c. search needs) (λ c κs. search needs) (λ c. search needs)
-    (λ c. search needs) (λ c. search needs)
+    (λ c κs. search needs) (λ c. search needs) (λ c. search needs) (λ c κs. search needs) (λ c. search needs) (λ c. search needs) (λ c. search needs)
     (λ c. omega arith))

@@ -10,9 +10,6 @@ pub jitamoro-apply-spec : {M : Type 1} → statement M
 jitamoro-apply-spec =
     tie.close
     (tie.spec
-    (λ c κs. search needs)
-    (λ c κs. search needs)
-    (λ c κs. search needs)
-    (λ c. search needs)
+    (λ c κs. search needs) (λ c κs. search needs) (λ c κs. search needs) (λ c. search needs)
     (λ c. let e = rw (toZ-ofZ {w = w64} (c .before .before .before .before .before .before .before .fits .addend), c .before .before .before .before .before .from-number .ensures) at (c .before .before .before .apply .ensures) in
     (rw (e .0) at (c .moved-answer .ensures), e .1)))

@@ -8,7 +8,5 @@ pub jitamoro-next-modifier-spec : {M : Type 1} → statement M
 jitamoro-next-modifier-spec =
     tie.close
     (tie.spec
-    (λ c κs. search needs)
-    (λ c κs. search needs)
-    (λ c κs. search needs)
+    (λ c κs. search needs) (λ c κs. search needs) (λ c κs. search needs)
     (λ c. rw (c .is-skip .ensures, c .before .next-modifier .ensures, c .before .before .from-number .ensures)))

@@ -14,7 +14,8 @@ pub jitamoro-pass-step-spec : {M : Type 1} → statement M
 jitamoro-pass-step-spec =
     tie.close
     (tie.spec
-    (λ c κs. search needs) (λ c κs. search needs) (λ c. search needs) (λ c κs. search needs) (λ c. search needs) (λ c κs. search needs) (λ c. search needs)
+    (λ c κs. search needs) (λ c κs. search needs) (λ c. search needs) (λ c κs. search needs) (λ c. search needs) (λ c κs. search needs)
+    (λ c. search needs)
     (λ c. let s = c .before .before .before .before .before .before .before .before .before .before in let a = s .args in
     let rel = relocation (a .r-type) (a .offset) (a .flags) (a .output-kind) (a .executable) (a .address) (a .addend) in
     let read = c .before .before .before .before .before .before .before .read .ensures in

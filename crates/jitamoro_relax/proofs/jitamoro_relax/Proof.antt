@@ -13,8 +13,7 @@ pub jitamoro-relax-spec : {M : Type 1} → statement M
 jitamoro-relax-spec =
     tie.close
     (tie.spec
-    (λ c κs. search needs) (λ c. search needs) (λ c. search needs) (λ c κs. search needs) (λ c κs. search needs)
-    (λ c. search needs)
+    (λ c κs. search needs) (λ c. search needs) (λ c. search needs) (λ c κs. search needs) (λ c κs. search needs) (λ c. search needs)
     (λ c. let a = c .before .before .before .before .before .before .args in
     let e = rw (toZ-ofZ {w = w64} (c .before .before .before .before .before .before .fits .addend)) at (sym (c .before .answer .given .1) ∙ c .before .before .before .settle .ensures) in
     (answers _ _ _ e, (keeps _ _ _ e, same-meaning _)))

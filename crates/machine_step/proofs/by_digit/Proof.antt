@@ -12,10 +12,7 @@ unfolding byDigit
 by-digit-spec =
     tie.close
     (tie.spec
-    (λ c κs. search needs)
-    (λ c κs. search needs)
-    (λ c κs. search needs)
-    (λ c κs. search needs)
+    (λ c κs. search needs) (λ c κs. search needs) (λ c κs. search needs) (λ c κs. search needs)
     (λ c. λ f e. c .lay .ensures ∙ rw (c .before .match .keys1, e))
     (λ c. λ f e. c .lay2 .ensures ∙ rw (c .before .match .keys2, e))
     (λ c. λ f e. c .lay3 .ensures ∙ rw (c .before .match .keys3, e))

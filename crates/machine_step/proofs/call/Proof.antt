@@ -14,7 +14,5 @@ unfolding push
 call-spec =
     tie.close
     (tie.spec
-    (λ c. search needs)
-    (λ c κs. search needs)
-    (λ c κs. search needs)
+    (λ c. search needs) (λ c κs. search needs) (λ c κs. search needs)
     (λ c. let sp = c .before .wrapping-sub-u64 in record { is = λ m. rw (sym (falls (sp .result) _ (omega arith) (sp .ensures)), c .put .ensures); steps = refl; unpushed = λ e. absurd (true≢false e) }))

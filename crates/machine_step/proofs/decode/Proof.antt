@@ -10,10 +10,6 @@ pub decode-spec : {M : Type 1} → statement M
 decode-spec =
     tie.close
     (tie.spec
-    (λ c κs. search needs)
-    (λ c κs. search needs)
-    (λ c κs. search needs)
-    (λ c κs. search needs)
-    (λ c κs. search needs)
+    (λ c κs. search needs) (λ c κs. search needs) (λ c κs. search needs) (λ c κs. search needs) (λ c κs. search needs)
     (λ c. c .prefixed .ensures
     ∙ rw (c .before .byte-at4 .ensures, c .before .before .byte-at3 .ensures, c .before .before .before .byte-at2 .ensures, c .before .before .before .before .byte-at .ensures, four)))

@@ -13,9 +13,7 @@ unfolding exec
 exec-spec =
     tie.close
     (tie.spec
-    (λ c κs. search needs)
-    (λ c κs. search needs)
-    (λ c κs. search needs)
+    (λ c κs. search needs) (λ c κs. search needs) (λ c κs. search needs)
     (λ c. let o = c .before .before .before .before in let a = o .before .args in answers (λ m. rw (c .before .if1 .taken, sym (o .operate .ensures .0), sym (o .operate .ensures .1)) (ap (λ (t : State). stepped t (a .next)) (c .before .before .store .ensures (flagsOf (o .operate .result .flags)) m))) (c .go .ensures))
     (λ c κs. search needs)
     (λ c. let o = c .before .before .before .before in let a = o .before .args in answers (λ m. rw (c .before .if1 .left, sym (o .operate .ensures .0)) (ap (λ (t : State). stepped t (a .next)) (c .before .before .store .ensures (flagsOf (a .flags)) m))) (c .go2 .ensures)))

@@ -8,6 +8,5 @@ pub flags-by-spec : {M : Type 1} → statement M
 flags-by-spec =
     tie.close
     (tie.spec
-    (λ c κs. search needs)
-    (λ c κs. search needs)
+    (λ c κs. search needs) (λ c κs. search needs)
     (λ c. rw (c .negative .ensures, c .before .parity .ensures)))

@@ -12,11 +12,7 @@ pub operand-spec : {M : Type 1} → statement M
 operand-spec =
     tie.close
     (tie.spec
-    (λ c κs. search needs)
-    (λ c κs. search needs)
-    (λ c κs. search needs)
-    (λ c κs. search needs)
-    (λ c κs. search needs)
+    (λ c κs. search needs) (λ c κs. search needs) (λ c κs. search needs) (λ c κs. search needs) (λ c κs. search needs)
     (λ c. let a = c .before .before .args in
     let k = c .before .match .keys1 in
     (λ s h. rw k (loads (a .wide) (s .mem) _ (a .slot) (omega arith) (h (rw k)) ∙ sym (c .low .ensures .0)), c .low .ensures .1))

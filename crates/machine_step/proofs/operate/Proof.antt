@@ -13,22 +13,13 @@ unfolding result sameSign flagsAfter
 operate-spec =
     tie.close
     (tie.spec
-    (λ c κs. search needs)
-    (λ c κs. search needs)
-    (λ c κs. search needs)
-    (λ c κs. search needs)
-    (λ c κs. search needs)
-    (λ c κs. search needs)
+    (λ c κs. search needs) (λ c κs. search needs) (λ c κs. search needs) (λ c κs. search needs) (λ c κs. search needs) (λ c κs. search needs)
     (λ c. let s = c .before .before .before .before .before in
     let a = s .before .before .args in
     let l = c .before .before in
     let v : l .low .result ≡ result sub (a .wide) (a .a) (a .b) = l .low .ensures .0 ∙ differs (a .wide) (l .before .wrapping-sub-u64 .result) (a .a) (a .b) (omega arith) (s .before .before .pre .1) (l .before .wrapping-sub-u64 .ensures) in
     (rw (c .before .before .before .before .if1 .taken) v, rw (c .before .before .before .before .if1 .taken) (rw (c .before .negative3 .ensures, s .negative2 .ensures, s .before .negative .ensures) at (c .flags-by .ensures))))
-    (λ c κs. search needs)
-    (λ c κs. search needs)
-    (λ c κs. search needs)
-    (λ c. search needs)
-    (λ c κs. search needs)
+    (λ c κs. search needs) (λ c κs. search needs) (λ c κs. search needs) (λ c. search needs) (λ c κs. search needs)
     (λ c. let s = c .before .before .before .before .before in
     let a = s .before .before .args in
     let l = c .before .before in

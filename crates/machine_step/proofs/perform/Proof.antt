@@ -14,18 +14,9 @@ perform-spec =
     (tie.spec
     (λ c κs. search needs)
     (λ c κs. c .before .before .pre .0 .moves (c .before .match .keys1))
-    (λ c κs. search needs)
-    (λ c. search needs)
-    (λ c. search needs)
-    (λ c. search needs)
-    (λ c κs. search needs)
-    (λ c κs. search needs)
+    (λ c κs. search needs) (λ c. search needs) (λ c. search needs) (λ c. search needs) (λ c κs. search needs) (λ c κs. search needs)
     (λ c κs. (c .before .low .ensures .1, c .operand2 .ensures .1))
-    (λ c κs. search needs)
-    (λ c κs. search needs)
-    (λ c κs. search needs)
-    (λ c κs. search needs)
-    (λ c κs. search needs)
+    (λ c κs. search needs) (λ c κs. search needs) (λ c κs. search needs) (λ c κs. search needs) (λ c κs. search needs)
     (λ c. let s = c .before .before .before .before .args in let k = c .before .before .before .match .keys1 in
     (λ m h. rw (k, c .before .before .operand .ensures .0 (stateOf (s .t5) (s .flags) m) (rw k at h), c .before .put .ensures) (c .go .ensures .is m), tidy (s .t5) (s .flags) (c .go .ensures .steps) (c .go .ensures .unpushed)))
     (λ c. let s = c .before .before .before .before .before .args in let k = c .before .before .before .before .match .keys2 in

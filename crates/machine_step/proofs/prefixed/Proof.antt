@@ -10,19 +10,11 @@ unfolding decode
 prefixed-spec =
     tie.close
     (tie.spec
-    (λ c. search needs)
-    (λ c. search needs)
-    (λ c κs. search needs)
+    (λ c. search needs) (λ c. search needs) (λ c κs. search needs)
     (λ c. rw (c .before .if1 .taken) (c .opcode .ensures))
     (λ c κs. search needs)
     (λ c. rw (c .before .before .before .if1 .left, c .before .before .if2 .taken, c .before .if3 .taken) (c .lay .ensures))
-    (λ c. search needs)
-    (λ c. search needs)
-    (λ c. search needs)
-    (λ c. search needs)
-    (λ c. search needs)
-    (λ c. search needs)
-    (λ c κs. search needs)
+    (λ c. search needs) (λ c. search needs) (λ c. search needs) (λ c. search needs) (λ c. search needs) (λ c. search needs) (λ c κs. search needs)
     (λ c. rw (c .before .before .before .if1 .left, c .before .before .if2 .taken, c .before .if3 .left) (c .opcode2 .ensures))
     (λ c κs. search needs)
     (λ c. rw (c .before .before .before .before .if1 .left, c .before .before .before .if2 .left, c .before .before .if4 .taken, c .before .if5 .taken) (c .lay2 .ensures))

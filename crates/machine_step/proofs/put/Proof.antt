@@ -9,6 +9,5 @@ pub put-spec : {M : Type 1} → statement M
 put-spec =
     tie.close
     (tie.spec
-    (λ c. search needs)
-    (λ c. search needs)
+    (λ c. search needs) (λ c. search needs)
     (λ c. put-set (c .args .regs) (c .args .k) (c .args .v) (rw (c .good .0 .1 .0 .1) (c .pre))))

@@ -11,12 +11,8 @@ pub slot-address-spec : {M : Type 1} → statement M
 slot-address-spec =
     tie.close
     (tie.spec
-    (λ c κs. search needs)
-    (λ c. search needs)
+    (λ c κs. search needs) (λ c. search needs)
     (λ c. let d = decoded _ _ (c .decode .ensures) .least in omega arith)
-    (λ c κs. search needs)
-    (λ c. search needs)
-    (λ c κs. search needs)
-    (λ c κs. search needs)
+    (λ c κs. search needs) (λ c. search needs) (λ c κs. search needs) (λ c κs. search needs)
     (λ c. let d = decoded _ _ (c .before .before .before .decode .ensures) in
     c .relative .ensures ∙ rw (c .before .wrapping-add-u64 .ensures, c .before .before .field-at .ensures .0, d .long)))

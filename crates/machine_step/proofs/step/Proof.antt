@@ -13,13 +13,9 @@ unfolding stepAt
 step-spec =
     tie.close
     (tie.spec
-    (λ c κs. search needs)
-    (λ c. search needs)
-    (λ c. search needs)
+    (λ c κs. search needs) (λ c. search needs) (λ c. search needs)
     (λ c. let d = decoded _ _ (c .before .decode .ensures) .least in omega arith)
-    (λ c κs. search needs)
-    (λ c. search needs)
-    (λ c κs. search needs)
+    (λ c κs. search needs) (λ c. search needs) (λ c κs. search needs)
     (λ c κs. (decoded _ _ (c .before .before .before .decode .ensures) .registers, c .before .field-at .ensures .1))
     (λ c. let d = decoded _ _ (c .before .before .before .before .decode .ensures) in
     let n = c .before .wrapping-add-u64 .ensures in

@@ -12,12 +12,7 @@ unfolding viaRip
 via-rip-spec =
     tie.close
     (tie.spec
-    (λ c κs. search needs)
-    (λ c κs. search needs)
-    (λ c κs. search needs)
-    (λ c κs. search needs)
-    (λ c κs. search needs)
-    (λ c κs. search needs)
+    (λ c κs. search needs) (λ c κs. search needs) (λ c κs. search needs) (λ c κs. search needs) (λ c κs. search needs) (λ c κs. search needs)
     (λ c. c .lay3 .ensures ∙ rw (ne-eqb _ 139 (c .before .before .match .rest .0 .0 .0 .0 .1), ne-eqb _ 3 (c .before .before .match .rest .0 .0 .0 .1), ne-eqb _ 43 (c .before .before .match .rest .0 .0 .1), ne-eqb _ 59 (c .before .before .match .rest .0 .1), ne-eqb _ 141 (c .before .before .match .rest .1), c .before .if1 .taken))
     (λ c κs. search needs)
     (λ c. c .lay4 .ensures ∙ rw (ne-eqb _ 139 (c .before .before .before .match .rest .0 .0 .0 .0 .1), ne-eqb _ 3 (c .before .before .before .match .rest .0 .0 .0 .1), ne-eqb _ 43 (c .before .before .before .match .rest .0 .0 .1), ne-eqb _ 59 (c .before .before .before .match .rest .0 .1), ne-eqb _ 141 (c .before .before .before .match .rest .1), c .before .before .if1 .left, c .before .if2 .taken))

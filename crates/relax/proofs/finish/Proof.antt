@@ -12,8 +12,7 @@ pub finish-spec : {M : Type 1} → statement M
 finish-spec =
     tie.close
     (tie.spec
-    (λ c κs. search needs) (λ c. search needs) (λ c. search needs)
-    (λ c. search needs)
+    (λ c κs. search needs) (λ c. search needs) (λ c. search needs) (λ c. search needs)
     (λ c. let a = c .before .before .before .before .before .before .before .before .before .args in
     let z = toZ-ofZ {w = w64} {z = a .rel .addend} (sfits-of {w = w64} (c .before .before .before .before .before .before .struct-told .given .1 .1 .1 .1 .1 .1 .0 .1)) in
     let e = rw z at (c .before .before .before .before .before .apply .ensures) in

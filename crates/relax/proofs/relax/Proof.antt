@@ -13,8 +13,7 @@ pub relax-spec : {M : Type 1} → statement M
 relax-spec =
     tie.close
     (tie.spec
-    (λ c κs. search needs) (λ c. search needs) (λ c. search needs) (λ c. search needs) (λ c κs. search needs)
-    (λ c. search needs)
+    (λ c κs. search needs) (λ c. search needs) (λ c. search needs) (λ c. search needs) (λ c κs. search needs) (λ c. search needs)
     (λ c. let a = c .before .before .before .before .before .before .args in
     let f = by-choice (a .section-bytes .now) (a .rel) _ (c .before .before .before .new-relaxation .ensures) in
     subst (Follows (a .section-bytes .now) (a .rel)) (c .before .n .given .1) f)

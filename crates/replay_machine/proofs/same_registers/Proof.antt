@@ -18,13 +18,6 @@ same-registers-spec =
     (tie.spec
     Inv-loop
     μ-loop
-    (λ c. omega arith)
-    (λ c. search needs)
-    (λ c. search needs)
-    (λ c. search needs)
-    (λ c. search needs)
-    (λ c. search needs)
-    (λ c. omega arith)
-    (λ c. omega arith)
-    (λ c. omega arith)
+    (λ c. omega arith) (λ c. search needs) (λ c. search needs) (λ c. search needs) (λ c. search needs) (λ c. search needs) (λ c. omega arith)
+    (λ c. omega arith) (λ c. omega arith)
     (λ c. search needs))

@@ -11,6 +11,5 @@ pub register-form-spec : {M : Type 1} → statement M
 register-form-spec =
     tie.close
     (tie.spec
-    (λ c. search needs)
-    (λ c. search needs)
+    (λ c. search needs) (λ c. search needs)
     (λ c. over (0xC0 + c .args .digit * 8) (c .args .mod-rm / 8) (omega arith)))

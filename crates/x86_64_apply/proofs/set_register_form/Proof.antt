@@ -12,12 +12,7 @@ pub set-register-form-spec : {M : Type 1} → statement M
 set-register-form-spec =
     tie.close
     (tie.spec
-    (λ c. search needs)
-    (λ c. search needs)
-    (λ c. search needs)
-    (λ c. search needs)
-    (λ c κs. search needs)
-    (λ c. search needs)
+    (λ c. search needs) (λ c. search needs) (λ c. search needs) (λ c. search needs) (λ c κs. search needs) (λ c. search needs)
     (λ c. simp length-set (omega arith))
     (λ c. search needs)
     (λ c. let o = c .before .before .before .args .offset in let e : o - 1 ≡ suc (o - 2) = omega arith in simp (c .register-form .ensures, e)))

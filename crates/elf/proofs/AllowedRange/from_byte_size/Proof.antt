@@ -27,10 +27,9 @@ unfolding byteRange
 from-byte-size-spec =
     tie.close
     (tie.spec
-    (λ c. search needs) (λ c. search needs) (λ c κs. search needs) (λ c. search needs) (λ c κs. search needs)
-    (λ c. search needs) (λ c κs. search needs) (λ c. search needs) (λ c κs. search needs) (λ c. search needs)
-    (λ c. search needs) (λ c κs. search needs) (λ c. search needs) (λ c κs. search needs) (λ c. search needs)
-    (λ c κs. search needs) (λ c. search needs) (λ c κs. search needs)
+    (λ c. search needs) (λ c. search needs) (λ c κs. search needs) (λ c. search needs) (λ c κs. search needs) (λ c. search needs)
+    (λ c κs. search needs) (λ c. search needs) (λ c κs. search needs) (λ c. search needs) (λ c. search needs) (λ c κs. search needs)
+    (λ c. search needs) (λ c κs. search needs) (λ c. search needs) (λ c κs. search needs) (λ c. search needs) (λ c κs. search needs)
     (λ c. both (width (c .before .before .before .before .before .args .n-bytes)) (c .new .ensures ∙ rw (c .before .enum-told2 .given .1, c .before .before .before .enum-told .given .1)))
     (λ c. both (width (c .before .before .before .before .before .args .n-bytes)) (c .new2 .ensures ∙ rw (c .before .enum-told3 .given .1, c .before .before .before .enum-told .given .1)))
     (λ c. both (width (c .before .before .before .before .before .args .n-bytes)) (c .new3 .ensures ∙ rw (c .before .enum-told4 .given .1, c .before .before .before .enum-told .given .1)))

@@ -11,7 +11,7 @@ pub x86-64-r-type-spec : {M : Type 1} → statement M
 x86-64-r-type-spec =
     tie.close
     (tie.spec
-    (λ c. search needs) (λ c. search needs) (λ c. search needs) (λ c. search needs) (λ c. search needs)
-    (λ c. search needs) (λ c. search needs) (λ c. search needs) (λ c. search needs) (λ c. search needs)
+    (λ c. search needs) (λ c. search needs) (λ c. search needs) (λ c. search needs) (λ c. search needs) (λ c. search needs) (λ c. search needs)
+    (λ c. search needs) (λ c. search needs) (λ c. search needs)
     (λ c. (search needs, dynamic-names)) (λ c. (search needs, dynamic-names)) (λ c. (search needs, dynamic-names)) (λ c. (search needs, dynamic-names)) (λ c. (search needs, dynamic-names))
     (λ c. (search needs, dynamic-names)) (λ c. (search needs, dynamic-names)) (λ c. (search needs, dynamic-names)) (λ c. (search needs, dynamic-names)) (λ c. (search needs, dynamic-names)))

@@ -13,11 +13,6 @@ pub part-from-spec : {M : Type 1} → statement M
 part-from-spec =
     tie.close
     (tie.spec
-    (λ c. search needs)
-    (λ c. search needs)
-    (λ c. search needs)
-    (λ c. search needs)
-    (λ c. search needs)
-    (λ c. search needs)
+    (λ c. search needs) (λ c. search needs) (λ c. search needs) (λ c. search needs) (λ c. search needs) (λ c. search needs)
     (λ c. rest (c .before .before .args .section-bytes .now) (c .before .before .args .at))
     (λ c. let h : length (c .before .before .args .section-bytes .now) ≤ c .before .before .args .at = omega arith in rest (c .before .before .args .section-bytes .now) (length (c .before .before .args .section-bytes .now)) ∙ past _ _ h))

@@ -9,8 +9,6 @@ pub stands-before-spec : {M : Type 1} → statement M
 stands-before-spec =
     tie.close
     (tie.spec
-    (λ c. search needs)
-    (λ c κs. search needs)
-    (λ c κs. search needs)
+    (λ c. search needs) (λ c κs. search needs) (λ c κs. search needs)
     (λ c. rw (← c .before .part-from .ensures, le-leb _ _ (c .before .before .if1 .taken)) (c .starts-with .ensures))
     (λ c. rw (lt-leb _ _ (c .if1 .left))))

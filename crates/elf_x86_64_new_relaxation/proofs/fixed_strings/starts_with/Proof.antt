@@ -27,9 +27,6 @@ starts-with-spec =
     μ-loop
     (λ c. sym (short (c .before .args .fixed .now) (c .before .args .part .now) (c .if1 .taken)))
     (λ c. (omega arith, refl))
-    (λ c. search needs)
-    (λ c. search needs)
-    (λ c. search needs)
-    (λ c. search needs)
+    (λ c. search needs) (λ c. search needs) (λ c. search needs) (λ c. search needs)
     (λ c. let d = c .before .before .before in (omega arith, d .loop .inv .1 ∙ (ap (λ (b : Bool). d .loop .same && b) (step _ _ (d .loop .i) (omega arith) (omega arith)) ∙ and-assoc (d .loop .same) _ _)))
     (λ c. sym (c .before .loop .inv .1 ∙ rw (ended _ _ _ (c .loop-test .left)) (and-true (c .before .loop .same)))))

@@ -12,11 +12,7 @@ unfolding gotpcrel given
 gotpcrel-spec =
     tie.close
     (tie.spec
-    (λ c κs. search needs)
-    (λ c κs. search needs)
-    (λ c κs. search needs)
-    (λ c κs. search needs)
-    (λ c κs. search needs)
+    (λ c κs. search needs) (λ c κs. search needs) (λ c κs. search needs) (λ c κs. search needs) (λ c κs. search needs)
     (λ c. search (needs, c .before .is-rex-w .ensures .1 (c .if2 .taken)))
     (λ c. search (needs, c .before .before .is-rex-w .ensures .1 (c .before .if2 .taken)))
     (λ c κs. search needs)

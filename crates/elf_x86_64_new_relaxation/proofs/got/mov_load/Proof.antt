@@ -10,8 +10,7 @@ unfolding movLoad given pick
 mov-load-spec =
     tie.close
     (tie.spec
-    (λ c κs. search needs)
-    (λ c κs. search needs)
+    (λ c κs. search needs) (λ c κs. search needs)
     (λ c. rw (c .before .before .before .if1 .taken, ← c .before .before .in-range .ensures, c .before .if2 .taken) (c .relax-to .ensures))
     (λ c. rw (c .before .before .if1 .taken, ← c .before .in-range .ensures, c .if2 .left))
     (λ c κs. search needs)

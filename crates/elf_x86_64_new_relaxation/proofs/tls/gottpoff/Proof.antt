@@ -12,14 +12,10 @@ unfolding gottpoff tpoffLoad given pick
 gottpoff-spec =
     tie.close
     (tie.spec
-    (λ c κs. search needs)
-    (λ c κs. search needs)
-    (λ c κs. search needs)
+    (λ c κs. search needs) (λ c κs. search needs) (λ c κs. search needs)
     (λ c. search (needs, c .before .is-rex-w .ensures .1 (c .if2 .taken)))
     (λ c. search (needs, c .before .before .is-rex-w .ensures .1 (c .before .if2 .taken)))
-    (λ c κs. search needs)
-    (λ c κs. search needs)
-    (λ c κs. search needs)
+    (λ c κs. search needs) (λ c κs. search needs) (λ c κs. search needs)
     (λ c. rw (← c .before .before .before .before .before .before .before .before .is-executable .ensures, local (c .before .before .before .before .before .before .before .before .before .before .args .q .flags .bits) (c .before .before .before .before .before .before .before .is-interposable .ensures), c .before .before .before .before .before .before .if1 .taken, ← c .before .before .before .before .before .is-rex-w .ensures .0, c .before .before .before .before .if2 .taken, c .before .before .match .keys1, ← c .before .is-static-executable .ensures) (c .relax-to .ensures))
     (λ c. rw (← c .before .before .before .before .before .before .before .is-executable .ensures, local (c .before .before .before .before .before .before .before .before .before .args .q .flags .bits) (c .before .before .before .before .before .before .is-interposable .ensures), c .before .before .before .before .before .if1 .taken, ← c .before .before .before .before .is-rex-w .ensures .0, c .before .before .before .if2 .taken, c .before .match .keys2) (c .relax-to2 .ensures))
     (λ c. rw (← c .before .before .before .before .before .before .is-executable .ensures, local (c .before .before .before .before .before .before .before .before .args .q .flags .bits) (c .before .before .before .before .before .is-interposable .ensures), c .before .before .before .before .if1 .taken, ← c .before .before .before .is-rex-w .ensures .0, c .before .before .if2 .taken, ne-eqb _ _ (c .match .rest .0 .1), ne-eqb _ _ (c .match .rest .1)))

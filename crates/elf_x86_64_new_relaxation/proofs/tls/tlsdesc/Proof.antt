@@ -12,15 +12,12 @@ unfolding tlsdesc descChoice given pick
 tlsdesc-spec =
     tie.close
     (tie.spec
-    (λ c κs. search needs)
-    (λ c κs. search needs)
+    (λ c κs. search needs) (λ c κs. search needs)
     (λ c. search (needs, c .before .is-rex-w .ensures .1 (c .if1 .taken)))
     (λ c. search (needs, c .before .before .is-rex-w .ensures .1 (c .before .if1 .taken)))
     (λ c. search (needs, c .before .before .is-rex-w .ensures .1 (c .before .if1 .taken)))
     (λ c. search (needs, c .before .before .before .is-rex-w .ensures .1 (c .before .before .if1 .taken)))
-    (λ c κs. search needs)
-    (λ c κs. search needs)
-    (λ c κs. search needs)
+    (λ c κs. search needs) (λ c κs. search needs) (λ c κs. search needs)
     (λ c. rw (← c .before .before .before .before .before .before .before .before .before .is-executable .ensures, ← and-assoc (c .before .before .before .before .before .before .before .before .before .is-executable .result), ← c .before .before .before .before .before .before .before .before .is-rex-w .ensures .0, c .before .before .before .before .before .before .before .if1 .taken, and-true (c .before .before .before .before .before .before .before .before .before .is-executable .result), c .before .before .before .before .if2 .taken, local (c .before .before .before .before .before .before .before .before .before .before .before .args .q .flags .bits) (c .before .before .is-interposable .ensures), c .before .if3 .taken, ← c .before .before .before .is-static-executable .ensures) (c .relax-to .ensures))
     (λ c κs. search needs)
     (λ c. rw (← c .before .before .before .before .before .before .before .before .before .is-executable .ensures, ← and-assoc (c .before .before .before .before .before .before .before .before .before .is-executable .result), ← c .before .before .before .before .before .before .before .before .is-rex-w .ensures .0, c .before .before .before .before .before .before .before .if1 .taken, and-true (c .before .before .before .before .before .before .before .before .before .is-executable .result), c .before .before .before .before .if2 .taken, local (c .before .before .before .before .before .before .before .before .before .before .before .args .q .flags .bits) (c .before .before .is-interposable .ensures), c .before .if3 .left, ← c .before .before .before .is-static-executable .ensures) (c .relax-to2 .ensures))

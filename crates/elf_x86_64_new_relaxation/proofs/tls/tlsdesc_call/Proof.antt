@@ -10,8 +10,6 @@ unfolding given
 tlsdesc-call-spec =
     tie.close
     (tie.spec
-    (λ c κs. search needs)
-    (λ c κs. search needs)
-    (λ c κs. search needs)
+    (λ c κs. search needs) (λ c κs. search needs) (λ c κs. search needs)
     (λ c. rw (← c .before .before .before .is-executable .ensures, c .before .before .if1 .taken, ← c .before .is-static-executable .ensures) (c .relax-to .ensures))
     (λ c. rw (← c .before .is-executable .ensures, c .if1 .left)))

@@ -10,12 +10,7 @@ unfolding tlsld given
 tlsld-spec =
     tie.close
     (tie.spec
-    (λ c κs. search needs)
-    (λ c. search needs)
-    (λ c κs. search needs)
-    (λ c κs. search needs)
-    (λ c. search needs)
-    (λ c κs. search needs)
+    (λ c κs. search needs) (λ c. search needs) (λ c κs. search needs) (λ c κs. search needs) (λ c. search needs) (λ c κs. search needs)
     (λ c κs. search needs)
     (λ c. rw (← c .before .before .before .before .before .before .is-executable .ensures, ← c .before .before .before .before .stands-before .ensures, c .before .before .before .if1 .taken, ← c .before .part-from .ensures, ← c .before .before .is-static-executable .ensures) (c .ld-call .ensures))
     (λ c. rw (← c .before .before .before .is-executable .ensures, ← c .before .stands-before .ensures, c .if1 .left)))

@@ -11,9 +11,6 @@ unfolding needsGotFallback
 needs-got-fallback-spec =
     tie.close
     (tie.spec
-    (λ c κs. search needs)
-    (λ c. search needs)
-    (λ c κs. search needs)
-    (λ c. search needs)
+    (λ c κs. search needs) (λ c. search needs) (λ c κs. search needs) (λ c. search needs)
     (λ c. rw (looked (c .before .before .before .before .before .args .self .«new_type») _ (c .before .before .before .before .rel-info .ensures), c .before .before .info .given .1, c .number .ensures))
     (λ c. rw (looked (c .before .before .before .args .self .«new_type») _ (c .before .before .rel-info .ensures), c .enum-told .given .1)))

@@ -13,8 +13,7 @@ pub has-fixed-load-address-spec : {M : Type 1} → statement M
 has-fixed-load-address-spec =
     tie.close
     (tie.spec
-    (λ c. search needs) (λ c κs. search needs) (λ c. search needs) (λ c κs. search needs) (λ c. search needs)
-    (λ c. search needs)
+    (λ c. search needs) (λ c κs. search needs) (λ c. search needs) (λ c κs. search needs) (λ c. search needs) (λ c. search needs)
     (λ c. c .is-fixed .ensures ∙ rw (c .before .before .self .given .1) (modelled isF fixed StaticExecutable refl refl (c .before .before .self .given .0 .0)))
     (λ c. c .is-fixed2 .ensures ∙ rw (c .before .before .self2 .given .1) (modelled isF fixed DynamicExecutable refl refl (c .before .before .self2 .given .0 .0)))
     (λ c. rw (c .enum-told .given .1))

@@ -13,8 +13,7 @@ pub is-position-independent-spec : {M : Type 1} → statement M
 is-position-independent-spec =
     tie.close
     (tie.spec
-    (λ c. search needs) (λ c. search needs) (λ c κs. search needs) (λ c. search needs) (λ c κs. search needs)
-    (λ c. search needs)
+    (λ c. search needs) (λ c. search needs) (λ c κs. search needs) (λ c. search needs) (λ c κs. search needs) (λ c. search needs)
     (λ c. rw (c .enum-told .given .1))
     (λ c. c .is-position-independent .ensures ∙ rw (c .before .before .self .given .1) (modelled isP independent DynamicExecutable refl refl (c .before .before .self .given .0 .0)))
     (λ c. c .is-position-independent2 .ensures ∙ rw (c .before .before .self2 .given .1) (modelled isP independent StaticExecutable refl refl (c .before .before .self2 .given .0 .0)))

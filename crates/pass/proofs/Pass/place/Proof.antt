@@ -11,8 +11,7 @@ pub place-spec : {M : Type 1} → statement M
 place-spec =
     tie.close
     (tie.spec
-    (λ c κs. search needs)
-    (λ c κs. search needs)
+    (λ c κs. search needs) (λ c κs. search needs)
     (λ c. rw (← c .before .before .before .claim .ensures, ← c .before .before .is-inside .ensures, c .before .if1 .taken, eq-eqb _ _ (c .if2 .taken)))
     (λ c. let a = c .before .before .before .before .args in
     within (c .before .before .before .claim .result) (a .len) (a .offset) (sym (c .before .before .is-inside .ensures) ∙ c .before .if1 .taken) .0)

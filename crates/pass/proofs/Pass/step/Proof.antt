@@ -13,18 +13,8 @@ step-spec =
     (λ c κs. search needs)
     (λ c. let a = c .before .before .before .args in
     rw (c .refused .ensures) (by-ended (a .self) (a .section-bytes .now) (a .rel) (c .before .if1 .taken)))
-    (λ c κs. search needs)
-    (λ c κs. search needs)
-    (λ c. search needs)
-    (λ c κs. search needs)
-    (λ c. search needs)
-    (λ c κs. search needs)
-    (λ c. search needs)
-    (λ c κs. search needs)
-    (λ c. search needs)
-    (λ c κs. search needs)
-    (λ c κs. search needs)
-    (λ c. search needs)
+    (λ c κs. search needs) (λ c κs. search needs) (λ c. search needs) (λ c κs. search needs) (λ c. search needs) (λ c κs. search needs)
+    (λ c. search needs) (λ c κs. search needs) (λ c. search needs) (λ c κs. search needs) (λ c κs. search needs) (λ c. search needs)
     (λ c. let a = c .before .before .before .before .before .before .before .before .before .args in
     let f = follows (a .self) (a .section-bytes .now) (a .rel) _ (c .before .before .before .before .before .before .before .if1 .left) (c .before .before .before .before .before .new-relaxation .ensures) in
     let g = subst (Follows (a .self) (a .section-bytes .now) (a .rel)) (sym (c .before .before .before .before .verdict .ensures) ∙ c .before .before .n .given .1) f in

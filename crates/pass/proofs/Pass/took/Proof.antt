@@ -8,12 +8,7 @@ pub took-spec : {M : Type 1} → statement M
 took-spec =
     tie.close
     (tie.spec
-    (λ c. search needs)
-    (λ c. search needs)
-    (λ c κs. search needs)
-    (λ c κs. search needs)
-    (λ c. search needs)
-    (λ c κs. search needs)
+    (λ c. search needs) (λ c. search needs) (λ c κs. search needs) (λ c κs. search needs) (λ c. search needs) (λ c κs. search needs)
     (λ c. simp (c .enum-told .given .1))
     (λ c. rw (c .before .before .before .relaxed .given .1, ← c .before .next-modifier .ensures, c .is-skip .ensures))
     (λ c. rw (c .before .before .relaxed2 .given .1) (c .refused .ensures)))

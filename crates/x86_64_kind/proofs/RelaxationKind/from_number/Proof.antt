@@ -17,24 +17,11 @@ from-number-spec =
     (λ c. let a = c .before .args in
     let e : a .number ≡ 19 + (a .number - 19) = omega arith in
     rw e (getD-drop 19 (kinds (a .inst-offset)) (a .number - 19) (RexMovIndirectToAbsolute 0)))
-    (λ c. simp (c .match .keys1))
-    (λ c. simp (c .match .keys2))
-    (λ c. simp (c .match .keys3))
-    (λ c. simp (c .match .keys4))
-    (λ c. simp (c .match .keys5))
-    (λ c. simp (c .match .keys6))
-    (λ c. simp (c .match .keys7))
-    (λ c. simp (c .match .keys8))
-    (λ c. simp (c .match .keys9))
-    (λ c. simp (c .match .keys10))
-    (λ c. simp (c .match .keys11))
-    (λ c. simp (c .match .keys12))
-    (λ c. simp (c .match .keys13))
-    (λ c. simp (c .match .keys14))
-    (λ c. simp (c .match .keys15))
-    (λ c. simp (c .match .keys16))
-    (λ c. simp (c .match .keys17))
-    (λ c. simp (c .match .keys18))
+    (λ c. simp (c .match .keys1)) (λ c. simp (c .match .keys2)) (λ c. simp (c .match .keys3)) (λ c. simp (c .match .keys4))
+    (λ c. simp (c .match .keys5)) (λ c. simp (c .match .keys6)) (λ c. simp (c .match .keys7)) (λ c. simp (c .match .keys8))
+    (λ c. simp (c .match .keys9)) (λ c. simp (c .match .keys10)) (λ c. simp (c .match .keys11)) (λ c. simp (c .match .keys12))
+    (λ c. simp (c .match .keys13)) (λ c. simp (c .match .keys14)) (λ c. simp (c .match .keys15)) (λ c. simp (c .match .keys16))
+    (λ c. simp (c .match .keys17)) (λ c. simp (c .match .keys18))
     (λ c. let a = c .before .before .args in
     let h = at-least 18 (a .number) (c .match .rest) in
     let e : a .number ≡ 18 = omega arith in

@@ -8,6 +8,5 @@ pub is-allowed-spec : {M : Type 1} → statement M
 is-allowed-spec =
     tie.close
     (tie.spec
-    (λ c κs. search needs)
-    (λ c κs. search needs)
+    (λ c κs. search needs) (λ c κs. search needs)
     (λ c. rw (← c .before .shape .ensures) (c .is-allowed-by .ensures)))
