@@ -1,6 +1,7 @@
 /*
  * Jitamoro: relaxation of x86-64 ELF relocations. Link with libjitamoro.a (x86-64, System V calling
- * convention); beside it only `memset` is needed. C11 or later, C++11 or later.
+ * convention), which the script `build` proves and makes; beside it only `memset` is needed. C11 or later, C++11 or
+ * later.
  *
  * Demands on the caller. Only C's own: a pointer is valid for as many bytes as the length that follows it
  * says, for reading, and where it isn't const for writing too; a bool is 0 or 1. With length 0 the pointer
