@@ -8,9 +8,10 @@
  * is not read and may be NULL. A pass is lent too: its pointer is valid for it, never NULL, and it doesn't lie
  * in the section lent with it. Any other arguments have an answer.
  *
- * Refusals. A field `refusal` is 0, or a number of `enum jitamoro_refusal`; under a refusal every other field of
- * the answer is 0, and no lent byte has changed, except under JITAMORO_REFUSED_PLT_REACH. If several refusals
- * apply, the answer is the first in the order that stands at the function.
+ * Refusals. A field `refusal` is 0, or a number of `enum jitamoro_refusal`, whose sentence jitamoro_refusal_text gives;
+ * under a refusal every other field of the answer is 0, and no lent byte has changed, except under
+ * JITAMORO_REFUSED_PLT_REACH. If several refusals apply, the answer is the first in the order that stands at the
+ * function.
  *
  * State and threads. Nothing is allocated, kept between calls, read from or written to elsewhere: answers and
  * lent bytes afterwards depend on the arguments and the lent bytes before alone. Threads may call at the same
@@ -31,12 +32,12 @@ extern "C" {
 
 /* ---- The version of this header and its archive, as CHANGELOG.md has it */
 
-#define JITAMORO_VERSION "0.2.0"
+#define JITAMORO_VERSION "0.3.0"
 #define JITAMORO_VERSION_MAJOR 0
-#define JITAMORO_VERSION_MINOR 2
+#define JITAMORO_VERSION_MINOR 3
 #define JITAMORO_VERSION_PATCH 0
 
-/* ---- Numbers */
+/* ---- Limits */
 
 /* The longest section, in bytes. */
 #define JITAMORO_MAX_SECTION_LENGTH 268435456u
@@ -44,124 +45,145 @@ extern "C" {
 /* The length of a PLT entry, in bytes. */
 #define JITAMORO_PLT_ENTRY_LENGTH 16u
 
-enum jitamoro_refusal {
-    JITAMORO_NOT_REFUSED = 0,
-    JITAMORO_REFUSED_SECTION_LENGTH = 1, /* the section is longer than JITAMORO_MAX_SECTION_LENGTH */
-    JITAMORO_REFUSED_OFFSET = 2,         /* the offset is above the section's length */
-    JITAMORO_REFUSED_FLAGS = 3,          /* the flag number is above 15 */
-    JITAMORO_REFUSED_OUTPUT_KIND = 4,    /* the output kind is above 5 */
-    JITAMORO_REFUSED_INST_OFFSET = 5,    /* not an instruction offset of the kind, or no such kind */
-    JITAMORO_REFUSED_WINDOW = 6,         /* the kind's window isn't wholly inside the section */
-    JITAMORO_REFUSED_TYPE = 7,           /* the relocation type isn't among the 39 */
-    JITAMORO_REFUSED_PLT_LENGTH = 8,     /* the PLT buffer isn't 16 bytes long */
-    JITAMORO_REFUSED_PLT_REACH = 9,      /* the GOT entry is out of reach of the PLT entry */
-    /* 10 to 13 concern case files, which this library doesn't read. */
-    JITAMORO_REFUSED_PASS_ENDED = 21,    /* the pass has ended */
-    JITAMORO_REFUSED_ORDER = 22,         /* the offset is below the last record's */
-    JITAMORO_REFUSED_OVERLAP = 23,       /* the window begins before the end of the last one */
-    JITAMORO_REFUSED_SKIP_PENDING = 24   /* the end was asked while a record is still to be skipped */
-};
+/* ---- Numbers and their texts
+ *
+ * A row X(name, number, text) stands once: the enum, and the function further below that gives a number's text, are
+ * made of it. A program may make its own tables in the same way.
+ */
+
+#define JITAMORO_ENUMERATOR_(name, number, text) name = number,
+
+/* Why something was refused; as sentences, jitamoro_refusal_text. 10 to 13 are the case program's: this library answers
+   none of them. */
+#define JITAMORO_REFUSALS(X)                                                                                \
+    X(JITAMORO_NOT_REFUSED, 0, "not refused")                                                               \
+    X(JITAMORO_REFUSED_SECTION_LENGTH, 1, "the section is longer than 268,435,456 bytes")                   \
+    X(JITAMORO_REFUSED_OFFSET, 2, "the offset lies past the section's end")                                 \
+    X(JITAMORO_REFUSED_FLAGS, 3, "the flag number is above 15")                                             \
+    X(JITAMORO_REFUSED_OUTPUT_KIND, 4, "the output kind is above 5")                                        \
+    X(JITAMORO_REFUSED_INST_OFFSET, 5, "the kind has no such instruction offset, or there is no such kind") \
+    X(JITAMORO_REFUSED_WINDOW, 6, "the bytes to rewrite don't lie wholly in the section")                   \
+    X(JITAMORO_REFUSED_TYPE, 7, "the relocation type isn't among the 39 that are known")                    \
+    X(JITAMORO_REFUSED_PLT_LENGTH, 8, "the buffer for a PLT entry isn't 16 bytes long")                     \
+    X(JITAMORO_REFUSED_PLT_REACH, 9, "the GOT entry is out of reach of the PLT entry")                      \
+    X(JITAMORO_REFUSED_MARK, 10, "there is no mark 52 58 where a record should begin")                      \
+    X(JITAMORO_REFUSED_CUT, 11, "the file ends inside a record")                                            \
+    X(JITAMORO_REFUSED_EXECUTABLE, 12, "the executable byte is neither 0 nor 1")                            \
+    X(JITAMORO_REFUSED_RECORD_LENGTH, 13, "the record's section is longer than 4,096 bytes")                \
+    X(JITAMORO_REFUSED_PASS_ENDED, 21, "the pass has ended")                                                \
+    X(JITAMORO_REFUSED_ORDER, 22, "the offset lies below the last record's")                                \
+    X(JITAMORO_REFUSED_OVERLAP, 23, "the bytes to rewrite begin before the end of those rewritten last")    \
+    X(JITAMORO_REFUSED_SKIP_PENDING, 24, "the end is asked while a record is still to be skipped")
+enum jitamoro_refusal { JITAMORO_REFUSALS(JITAMORO_ENUMERATOR_) };
 
 /* Flags of a symbol's value, summed. */
-enum jitamoro_flag {
-    JITAMORO_FLAG_NON_INTERPOSABLE = 1,
-    JITAMORO_FLAG_ABSOLUTE = 2,
-    JITAMORO_FLAG_DYNAMIC = 4,
-    JITAMORO_FLAG_IFUNC = 8
-};
+#define JITAMORO_FLAGS(X)                                    \
+    X(JITAMORO_FLAG_NON_INTERPOSABLE, 1, "non-interposable") \
+    X(JITAMORO_FLAG_ABSOLUTE, 2, "absolute")                 \
+    X(JITAMORO_FLAG_DYNAMIC, 4, "dynamic")                   \
+    X(JITAMORO_FLAG_IFUNC, 8, "ifunc")
+enum jitamoro_flag { JITAMORO_FLAGS(JITAMORO_ENUMERATOR_) };
 
-enum jitamoro_output {
-    JITAMORO_OUTPUT_STATIC_FIXED = 0,
-    JITAMORO_OUTPUT_STATIC_POSITION_INDEPENDENT = 1,
-    JITAMORO_OUTPUT_DYNAMIC_FIXED = 2,
-    JITAMORO_OUTPUT_DYNAMIC_POSITION_INDEPENDENT = 3,
-    JITAMORO_OUTPUT_SHARED_OBJECT = 4,
-    JITAMORO_OUTPUT_PARTIAL_LINK = 5
-};
+/* What is being linked; jitamoro_output_name. */
+#define JITAMORO_OUTPUTS(X)                                                            \
+    X(JITAMORO_OUTPUT_STATIC_FIXED, 0, "static fixed")                                 \
+    X(JITAMORO_OUTPUT_STATIC_POSITION_INDEPENDENT, 1, "static position-independent")   \
+    X(JITAMORO_OUTPUT_DYNAMIC_FIXED, 2, "dynamic fixed")                               \
+    X(JITAMORO_OUTPUT_DYNAMIC_POSITION_INDEPENDENT, 3, "dynamic position-independent") \
+    X(JITAMORO_OUTPUT_SHARED_OBJECT, 4, "shared object")                               \
+    X(JITAMORO_OUTPUT_PARTIAL_LINK, 5, "partial link")
+enum jitamoro_output { JITAMORO_OUTPUTS(JITAMORO_ENUMERATOR_) };
 
 /*
- * Relaxation kinds, each with its window: the bytes that it reads or writes, counted from the offset, the end
- * not included. Those marked (i) have an instruction offset, how far before the field the instruction starts:
- * 3 or 4; for REX_ADD_INDIRECT_TO_ABSOLUTE also 6, where the window is -5 to 0; for REX_ADD_INDIRECT_TO_LEA,
- * which is never chosen, only 3.
+ * Relaxation kinds, by wild's names (jitamoro_kind_name), each with its window: the bytes that it reads or writes,
+ * counted from the offset, the end not included. Those marked (i) have an instruction offset, how far before the field
+ * the instruction starts: 3 or 4; for REX_ADD_INDIRECT_TO_ABSOLUTE also 6, where the window is -5 to 0; for
+ * REX_ADD_INDIRECT_TO_LEA, which is never chosen, only 3.
  */
-enum jitamoro_kind {
-    JITAMORO_KIND_MOV_INDIRECT_TO_LEA = 0,          /* -2 to -1 */
-    JITAMORO_KIND_MOV_INDIRECT_TO_ABSOLUTE = 1,     /* -2 to 0 */
-    JITAMORO_KIND_REX_MOV_INDIRECT_TO_ABSOLUTE = 2, /* -3 to 0 (i) */
-    JITAMORO_KIND_REX_ADD_INDIRECT_TO_ABSOLUTE = 3, /* -3 to 0 (i) */
-    JITAMORO_KIND_REX_ADD_INDIRECT_TO_LEA = 4,      /* -3 to 0 (i) */
-    JITAMORO_KIND_REX_SUB_INDIRECT_TO_ABSOLUTE = 5, /* -3 to 0 (i) */
-    JITAMORO_KIND_REX_CMP_INDIRECT_TO_ABSOLUTE = 6, /* -3 to 0 (i) */
-    JITAMORO_KIND_CALL_INDIRECT_TO_RELATIVE = 7,    /* -2 to 0 */
-    JITAMORO_KIND_JMP_INDIRECT_TO_RELATIVE = 8,     /* -2 to 4 */
-    JITAMORO_KIND_NO_OP = 9,                        /* empty: only the type changes */
-    JITAMORO_KIND_TLS_GD_TO_LOCAL_EXEC = 10,        /* -4 to 8 */
-    JITAMORO_KIND_TLS_GD_TO_LOCAL_EXEC_LARGE = 11,  /* -3 to 19 */
-    JITAMORO_KIND_TLS_LD_TO_LOCAL_EXEC = 12,        /* -3 to 9 */
-    JITAMORO_KIND_TLS_LD_TO_LOCAL_EXEC_NO_PLT = 13, /* -3 to 10 */
-    JITAMORO_KIND_TLS_LD_TO_LOCAL_EXEC_64 = 14,     /* -3 to 19 */
-    JITAMORO_KIND_TLS_GD_TO_INITIAL_EXEC = 15,      /* -4 to 8 */
-    JITAMORO_KIND_TLS_DESC_TO_LOCAL_EXEC = 16,      /* -3 to 0 (i) */
-    JITAMORO_KIND_TLS_DESC_TO_INITIAL_EXEC = 17,    /* -2 to -1 */
-    JITAMORO_KIND_SKIP_TLS_DESC_CALL = 18           /* 0 to 2 */
-};
+#define JITAMORO_KINDS(X)                                                                                           \
+    X(JITAMORO_KIND_MOV_INDIRECT_TO_LEA, 0, "MovIndirectToLea")                  /* -2 to -1 */                     \
+    X(JITAMORO_KIND_MOV_INDIRECT_TO_ABSOLUTE, 1, "MovIndirectToAbsolute")        /* -2 to 0 */                      \
+    X(JITAMORO_KIND_REX_MOV_INDIRECT_TO_ABSOLUTE, 2, "RexMovIndirectToAbsolute") /* -3 to 0 (i) */                  \
+    X(JITAMORO_KIND_REX_ADD_INDIRECT_TO_ABSOLUTE, 3, "RexAddIndirectToAbsolute") /* -3 to 0 (i) */                  \
+    X(JITAMORO_KIND_REX_ADD_INDIRECT_TO_LEA, 4, "RexAddIndirectToLea")           /* -3 to 0 (i) */                  \
+    X(JITAMORO_KIND_REX_SUB_INDIRECT_TO_ABSOLUTE, 5, "RexSubIndirectToAbsolute") /* -3 to 0 (i) */                  \
+    X(JITAMORO_KIND_REX_CMP_INDIRECT_TO_ABSOLUTE, 6, "RexCmpIndirectToAbsolute") /* -3 to 0 (i) */                  \
+    X(JITAMORO_KIND_CALL_INDIRECT_TO_RELATIVE, 7, "CallIndirectToRelative")      /* -2 to 0 */                      \
+    X(JITAMORO_KIND_JMP_INDIRECT_TO_RELATIVE, 8, "JmpIndirectToRelative")        /* -2 to 4 */                      \
+    X(JITAMORO_KIND_NO_OP, 9, "NoOp")                                            /* empty: only the type changes */ \
+    X(JITAMORO_KIND_TLS_GD_TO_LOCAL_EXEC, 10, "TlsGdToLocalExec")                /* -4 to 8 */                      \
+    X(JITAMORO_KIND_TLS_GD_TO_LOCAL_EXEC_LARGE, 11, "TlsGdToLocalExecLarge")     /* -3 to 19 */                     \
+    X(JITAMORO_KIND_TLS_LD_TO_LOCAL_EXEC, 12, "TlsLdToLocalExec")                /* -3 to 9 */                      \
+    X(JITAMORO_KIND_TLS_LD_TO_LOCAL_EXEC_NO_PLT, 13, "TlsLdToLocalExecNoPlt")    /* -3 to 10 */                     \
+    X(JITAMORO_KIND_TLS_LD_TO_LOCAL_EXEC_64, 14, "TlsLdToLocalExec64")           /* -3 to 19 */                     \
+    X(JITAMORO_KIND_TLS_GD_TO_INITIAL_EXEC, 15, "TlsGdToInitialExec")            /* -4 to 8 */                      \
+    X(JITAMORO_KIND_TLS_DESC_TO_LOCAL_EXEC, 16, "TlsDescToLocalExec")            /* -3 to 0 (i) */                  \
+    X(JITAMORO_KIND_TLS_DESC_TO_INITIAL_EXEC, 17, "TlsDescToInitialExec")        /* -2 to -1 */                     \
+    X(JITAMORO_KIND_SKIP_TLS_DESC_CALL, 18, "SkipTlsDescCall")                   /* 0 to 2 */
+enum jitamoro_kind { JITAMORO_KINDS(JITAMORO_ENUMERATOR_) };
 
-/* Relocation types, as in the psABI: the 39 that jitamoro_relocation_from_raw knows. */
-enum jitamoro_r_type {
-    JITAMORO_R_X86_64_NONE = 0,
-    JITAMORO_R_X86_64_64 = 1,
-    JITAMORO_R_X86_64_PC32 = 2,
-    JITAMORO_R_X86_64_GOT32 = 3,
-    JITAMORO_R_X86_64_PLT32 = 4,
-    JITAMORO_R_X86_64_GOTPCREL = 9,
-    JITAMORO_R_X86_64_32 = 10,
-    JITAMORO_R_X86_64_32S = 11,
-    JITAMORO_R_X86_64_16 = 12,
-    JITAMORO_R_X86_64_PC16 = 13,
-    JITAMORO_R_X86_64_8 = 14,
-    JITAMORO_R_X86_64_PC8 = 15,
-    JITAMORO_R_X86_64_DTPOFF64 = 17,
-    JITAMORO_R_X86_64_TLSGD = 19,
-    JITAMORO_R_X86_64_TLSLD = 20,
-    JITAMORO_R_X86_64_DTPOFF32 = 21,
-    JITAMORO_R_X86_64_GOTTPOFF = 22,
-    JITAMORO_R_X86_64_TPOFF32 = 23,
-    JITAMORO_R_X86_64_PC64 = 24,
-    JITAMORO_R_X86_64_GOTOFF64 = 25,
-    JITAMORO_R_X86_64_GOTPC32 = 26,
-    JITAMORO_R_X86_64_GOT64 = 27,
-    JITAMORO_R_X86_64_GOTPC64 = 29,
-    JITAMORO_R_X86_64_PLTOFF64 = 31,
-    JITAMORO_R_X86_64_SIZE32 = 32,
-    JITAMORO_R_X86_64_SIZE64 = 33,
-    JITAMORO_R_X86_64_GOTPC32_TLSDESC = 34,
-    JITAMORO_R_X86_64_TLSDESC_CALL = 35,
-    JITAMORO_R_X86_64_GOTPCRELX = 41,
-    JITAMORO_R_X86_64_REX_GOTPCRELX = 42,
-    /* APX: not yet in every <elf.h> */
-    JITAMORO_R_X86_64_CODE_4_GOTPCRELX = 43,
-    JITAMORO_R_X86_64_CODE_4_GOTTPOFF = 44,
-    JITAMORO_R_X86_64_CODE_4_GOTPC32_TLSDESC = 45,
-    JITAMORO_R_X86_64_CODE_5_GOTPCRELX = 46,
-    JITAMORO_R_X86_64_CODE_5_GOTTPOFF = 47,
-    JITAMORO_R_X86_64_CODE_5_GOTPC32_TLSDESC = 48,
-    JITAMORO_R_X86_64_CODE_6_GOTPCRELX = 49,
-    JITAMORO_R_X86_64_CODE_6_GOTTPOFF = 50,
-    JITAMORO_R_X86_64_CODE_6_GOTPC32_TLSDESC = 51
-};
+/* Relocation types, as in the psABI (jitamoro_r_type_name): the 39 that jitamoro_relocation_from_raw knows. Those from
+   43 on are APX's, and not yet in every <elf.h>. */
+#define JITAMORO_R_TYPES(X)                                                            \
+    X(JITAMORO_R_X86_64_NONE, 0, "R_X86_64_NONE")                                      \
+    X(JITAMORO_R_X86_64_64, 1, "R_X86_64_64")                                          \
+    X(JITAMORO_R_X86_64_PC32, 2, "R_X86_64_PC32")                                      \
+    X(JITAMORO_R_X86_64_GOT32, 3, "R_X86_64_GOT32")                                    \
+    X(JITAMORO_R_X86_64_PLT32, 4, "R_X86_64_PLT32")                                    \
+    X(JITAMORO_R_X86_64_GOTPCREL, 9, "R_X86_64_GOTPCREL")                              \
+    X(JITAMORO_R_X86_64_32, 10, "R_X86_64_32")                                         \
+    X(JITAMORO_R_X86_64_32S, 11, "R_X86_64_32S")                                       \
+    X(JITAMORO_R_X86_64_16, 12, "R_X86_64_16")                                         \
+    X(JITAMORO_R_X86_64_PC16, 13, "R_X86_64_PC16")                                     \
+    X(JITAMORO_R_X86_64_8, 14, "R_X86_64_8")                                           \
+    X(JITAMORO_R_X86_64_PC8, 15, "R_X86_64_PC8")                                       \
+    X(JITAMORO_R_X86_64_DTPOFF64, 17, "R_X86_64_DTPOFF64")                             \
+    X(JITAMORO_R_X86_64_TLSGD, 19, "R_X86_64_TLSGD")                                   \
+    X(JITAMORO_R_X86_64_TLSLD, 20, "R_X86_64_TLSLD")                                   \
+    X(JITAMORO_R_X86_64_DTPOFF32, 21, "R_X86_64_DTPOFF32")                             \
+    X(JITAMORO_R_X86_64_GOTTPOFF, 22, "R_X86_64_GOTTPOFF")                             \
+    X(JITAMORO_R_X86_64_TPOFF32, 23, "R_X86_64_TPOFF32")                               \
+    X(JITAMORO_R_X86_64_PC64, 24, "R_X86_64_PC64")                                     \
+    X(JITAMORO_R_X86_64_GOTOFF64, 25, "R_X86_64_GOTOFF64")                             \
+    X(JITAMORO_R_X86_64_GOTPC32, 26, "R_X86_64_GOTPC32")                               \
+    X(JITAMORO_R_X86_64_GOT64, 27, "R_X86_64_GOT64")                                   \
+    X(JITAMORO_R_X86_64_GOTPC64, 29, "R_X86_64_GOTPC64")                               \
+    X(JITAMORO_R_X86_64_PLTOFF64, 31, "R_X86_64_PLTOFF64")                             \
+    X(JITAMORO_R_X86_64_SIZE32, 32, "R_X86_64_SIZE32")                                 \
+    X(JITAMORO_R_X86_64_SIZE64, 33, "R_X86_64_SIZE64")                                 \
+    X(JITAMORO_R_X86_64_GOTPC32_TLSDESC, 34, "R_X86_64_GOTPC32_TLSDESC")               \
+    X(JITAMORO_R_X86_64_TLSDESC_CALL, 35, "R_X86_64_TLSDESC_CALL")                     \
+    X(JITAMORO_R_X86_64_GOTPCRELX, 41, "R_X86_64_GOTPCRELX")                           \
+    X(JITAMORO_R_X86_64_REX_GOTPCRELX, 42, "R_X86_64_REX_GOTPCRELX")                   \
+    X(JITAMORO_R_X86_64_CODE_4_GOTPCRELX, 43, "R_X86_64_CODE_4_GOTPCRELX")             \
+    X(JITAMORO_R_X86_64_CODE_4_GOTTPOFF, 44, "R_X86_64_CODE_4_GOTTPOFF")               \
+    X(JITAMORO_R_X86_64_CODE_4_GOTPC32_TLSDESC, 45, "R_X86_64_CODE_4_GOTPC32_TLSDESC") \
+    X(JITAMORO_R_X86_64_CODE_5_GOTPCRELX, 46, "R_X86_64_CODE_5_GOTPCRELX")             \
+    X(JITAMORO_R_X86_64_CODE_5_GOTTPOFF, 47, "R_X86_64_CODE_5_GOTTPOFF")               \
+    X(JITAMORO_R_X86_64_CODE_5_GOTPC32_TLSDESC, 48, "R_X86_64_CODE_5_GOTPC32_TLSDESC") \
+    X(JITAMORO_R_X86_64_CODE_6_GOTPCRELX, 49, "R_X86_64_CODE_6_GOTPCRELX")             \
+    X(JITAMORO_R_X86_64_CODE_6_GOTTPOFF, 50, "R_X86_64_CODE_6_GOTTPOFF")               \
+    X(JITAMORO_R_X86_64_CODE_6_GOTPC32_TLSDESC, 51, "R_X86_64_CODE_6_GOTPC32_TLSDESC")
+enum jitamoro_r_type { JITAMORO_R_TYPES(JITAMORO_ENUMERATOR_) };
 
 /* Types that only a dynamic linker meets: jitamoro_x86_64_r_type answers them, the lookup refuses them. */
-enum jitamoro_dynamic_r_type {
-    JITAMORO_R_X86_64_COPY = 5,
-    JITAMORO_R_X86_64_GLOB_DAT = 6,
-    JITAMORO_R_X86_64_JUMP_SLOT = 7,
-    JITAMORO_R_X86_64_RELATIVE = 8,
-    JITAMORO_R_X86_64_DTPMOD64 = 16,
-    JITAMORO_R_X86_64_TPOFF64 = 18,
-    JITAMORO_R_X86_64_TLSDESC = 36,
-    JITAMORO_R_X86_64_IRELATIVE = 37
-};
+#define JITAMORO_DYNAMIC_R_TYPES(X)                          \
+    X(JITAMORO_R_X86_64_COPY, 5, "R_X86_64_COPY")            \
+    X(JITAMORO_R_X86_64_GLOB_DAT, 6, "R_X86_64_GLOB_DAT")    \
+    X(JITAMORO_R_X86_64_JUMP_SLOT, 7, "R_X86_64_JUMP_SLOT")  \
+    X(JITAMORO_R_X86_64_RELATIVE, 8, "R_X86_64_RELATIVE")    \
+    X(JITAMORO_R_X86_64_DTPMOD64, 16, "R_X86_64_DTPMOD64")   \
+    X(JITAMORO_R_X86_64_TPOFF64, 18, "R_X86_64_TPOFF64")     \
+    X(JITAMORO_R_X86_64_TLSDESC, 36, "R_X86_64_TLSDESC")     \
+    X(JITAMORO_R_X86_64_IRELATIVE, 37, "R_X86_64_IRELATIVE")
+enum jitamoro_dynamic_r_type { JITAMORO_DYNAMIC_R_TYPES(JITAMORO_ENUMERATOR_) };
+
+/* The psABI's other types, which the library neither takes nor gives: named for messages. */
+#define JITAMORO_OTHER_R_TYPES(X)                              \
+    X(JITAMORO_R_X86_64_GOTPCREL64, 28, "R_X86_64_GOTPCREL64") \
+    X(JITAMORO_R_X86_64_GOTPLT64, 30, "R_X86_64_GOTPLT64")     \
+    X(JITAMORO_R_X86_64_RELATIVE64, 38, "R_X86_64_RELATIVE64")
+enum jitamoro_other_r_type { JITAMORO_OTHER_R_TYPES(JITAMORO_ENUMERATOR_) };
 
 /* What the field of a relocation is to hold. */
 enum jitamoro_relocation_kind {
@@ -198,7 +220,10 @@ enum jitamoro_dynamic_kind {
 
 /* ---- Answers */
 
-/* Which relaxation was chosen. Not chosen and not refused: none, the record stays as it is. */
+/*
+ * Which relaxation was chosen. TEST `refusal` AND THEN `chosen` before any other field: not refused and not chosen
+ * means none, the record stays as it is, and every other field is 0, which is also the number of a kind and of a type.
+ */
 struct jitamoro_choice {
     uint8_t refusal;
     bool chosen;             /* false: every field below is 0 */
@@ -217,11 +242,12 @@ struct jitamoro_moved {
     int64_t addend;
 };
 
-/* A choice that was carried out: `choice.refusal` tells a refusal. */
+/* A choice that was carried out. TEST `choice.refusal` AND THEN `choice.chosen`: where nothing was chosen, offset and
+   addend are 0, NOT the record's own. jitamoro_relax_record keeps the record's own there. */
 struct jitamoro_relaxed {
     struct jitamoro_choice choice;
-    uint64_t offset; /* 0 where nothing was chosen, and so the addend */
-    int64_t addend;
+    uint64_t offset; /* where the field lies now */
+    int64_t addend;  /* and its addend */
 };
 
 /* A walk over a section's records, held in place by the caller. Any words are a pass. */
@@ -273,10 +299,28 @@ struct jitamoro_value_flags_answer {
 
 /* ---- One record
  *
- * A record is a relocation of type `r_type` whose field lies at `offset` in the section: `flags` is a sum of
- * enum jitamoro_flag, `output_kind` one of enum jitamoro_output, `executable` says whether the section is,
- * `address` is the symbol's address. Any type number is taken; for one with no rule nothing is chosen.
+ * Any type number is taken; for one with no rule nothing is chosen.
  */
+
+/* A relocation, with what is asked of its symbol, section and output. */
+struct jitamoro_record {
+    uint64_t offset;     /* where its field lies in the section */
+    uint64_t address;    /* the symbol's address */
+    int64_t addend;
+    uint32_t r_type;     /* enum jitamoro_r_type */
+    uint8_t flags;       /* the sum of enum jitamoro_flag */
+    uint8_t output_kind; /* enum jitamoro_output */
+    bool executable;     /* whether the section is */
+};
+
+/* What fills the field after relaxing; the record as it was where nothing was relaxed. */
+static inline void jitamoro_record_now_(struct jitamoro_record *record, const struct jitamoro_relaxed *relaxed) {
+    if (relaxed->choice.chosen) {
+        record->r_type = relaxed->choice.new_type;
+        record->offset = relaxed->offset;
+        record->addend = relaxed->addend;
+    }
+}
 
 /* Chooses a relaxation and rewrites the instruction by it. Refusals 1, 2, 3, 4, and 6 where a kind was chosen.
    No byte outside the kind's window changes, and none at all if nothing was chosen. */
@@ -297,6 +341,26 @@ struct jitamoro_moved jitamoro_apply(uint8_t kind, uint8_t inst_offset, uint8_t 
 /* Whether the relocation after one relaxed by this kind is skipped; false for a number of no kind. */
 bool jitamoro_next_modifier(uint8_t kind);
 
+/*
+ * jitamoro_relax for a record held in place. Relaxed: `r_type`, `offset` and `addend` become those that fill the field
+ * now. None, or refused: the record stays as it was. So it says what is to be filled in any case but a refusal.
+ */
+static inline struct jitamoro_choice jitamoro_relax_record(struct jitamoro_record *record, uint8_t *section,
+                                                           size_t len) {
+    struct jitamoro_relaxed r =
+        jitamoro_relax(record->r_type, section, len, record->offset, record->flags, record->output_kind,
+                       record->executable, record->address, record->addend);
+    jitamoro_record_now_(record, &r);
+    return r.choice;
+}
+
+/* jitamoro_new_relaxation for a record. */
+static inline struct jitamoro_choice jitamoro_choose_record(const struct jitamoro_record *record,
+                                                            const uint8_t *section, size_t len) {
+    return jitamoro_new_relaxation(record->r_type, section, len, record->offset, record->flags, record->output_kind,
+                                   record->executable, record->address, record->addend);
+}
+
 /* ---- A section's records, in the order of their offsets */
 
 /* A pass before its first record: four zeros, as `struct jitamoro_pass pass = {0};` has them. */
@@ -308,6 +372,16 @@ struct jitamoro_pass jitamoro_pass_fresh(void);
 struct jitamoro_step jitamoro_pass_step(struct jitamoro_pass *pass, uint32_t r_type, uint8_t *section,
                                         size_t len, uint64_t offset, uint8_t flags, uint8_t output_kind,
                                         bool executable, uint64_t address, int64_t addend);
+
+/* jitamoro_pass_step for a record held in place, which changes as jitamoro_relax_record says; skipped, it stays too. */
+static inline struct jitamoro_step jitamoro_step_record(struct jitamoro_pass *pass, struct jitamoro_record *record,
+                                                        uint8_t *section, size_t len) {
+    struct jitamoro_step s =
+        jitamoro_pass_step(pass, record->r_type, section, len, record->offset, record->flags, record->output_kind,
+                           record->executable, record->address, record->addend);
+    jitamoro_record_now_(record, &s.relaxed);
+    return s;
+}
 
 /* Ends the pass, and answers 0 or a refusal: sets `ended` and nothing else. Refusals 21, 24. */
 uint8_t jitamoro_pass_end(struct jitamoro_pass *pass);
@@ -340,7 +414,49 @@ struct jitamoro_output_kind_answer jitamoro_output_kind(uint8_t number);
 /* What a flag number says. Refusal 3. */
 struct jitamoro_value_flags_answer jitamoro_value_flags(uint8_t number);
 
-/* ---- The layout: where each field of an answer lies */
+/* ---- Texts of numbers, for messages: never NULL */
+
+#define JITAMORO_TEXT_(name, number, text) \
+    case name: return text;
+
+/* A sentence without its full stop, as "the offset lies past the section's end". */
+static inline const char *jitamoro_refusal_text(uint8_t refusal) {
+    switch (refusal) {
+        JITAMORO_REFUSALS(JITAMORO_TEXT_)
+    default: return "no such refusal";
+    }
+}
+
+/* As "RexMovIndirectToAbsolute". */
+static inline const char *jitamoro_kind_name(uint8_t kind) {
+    switch (kind) {
+        JITAMORO_KINDS(JITAMORO_TEXT_)
+    default: return "no such kind";
+    }
+}
+
+/* As "R_X86_64_PC32": every type of the psABI, but for 39 and 40, which are no longer in use. */
+static inline const char *jitamoro_r_type_name(uint32_t r_type) {
+    switch (r_type) {
+        JITAMORO_R_TYPES(JITAMORO_TEXT_)
+        JITAMORO_DYNAMIC_R_TYPES(JITAMORO_TEXT_)
+        JITAMORO_OTHER_R_TYPES(JITAMORO_TEXT_)
+    default: return "no such type";
+    }
+}
+
+/* As "static position-independent". */
+static inline const char *jitamoro_output_name(uint8_t output_kind) {
+    switch (output_kind) {
+        JITAMORO_OUTPUTS(JITAMORO_TEXT_)
+    default: return "no such output kind";
+    }
+}
+
+#undef JITAMORO_TEXT_
+#undef JITAMORO_ENUMERATOR_
+
+/* ---- The layout: where each field lies */
 
 #ifdef __cplusplus
 #define JITAMORO_ASSERT_(condition) static_assert(condition, #condition)
@@ -372,6 +488,15 @@ JITAMORO_SIZE_(struct jitamoro_relaxed, 32);
 JITAMORO_AT_(jitamoro_relaxed, choice, 0);
 JITAMORO_AT_(jitamoro_relaxed, offset, 16);
 JITAMORO_AT_(jitamoro_relaxed, addend, 24);
+
+JITAMORO_SIZE_(struct jitamoro_record, 32);
+JITAMORO_AT_(jitamoro_record, offset, 0);
+JITAMORO_AT_(jitamoro_record, address, 8);
+JITAMORO_AT_(jitamoro_record, addend, 16);
+JITAMORO_AT_(jitamoro_record, r_type, 24);
+JITAMORO_AT_(jitamoro_record, flags, 28);
+JITAMORO_AT_(jitamoro_record, output_kind, 29);
+JITAMORO_AT_(jitamoro_record, executable, 30);
 
 JITAMORO_SIZE_(struct jitamoro_pass, 32);
 JITAMORO_AT_(jitamoro_pass, last, 0);
