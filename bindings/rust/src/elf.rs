@@ -1,4 +1,5 @@
-//! Relocation types by the psABI's names, as `object::elf` has them, and the names of their numbers.
+//! Relocation types by the psABI's names, as `object::elf` has them, and the names of their numbers, as elf.rs gives
+//! them.
 
 use core::fmt;
 

@@ -94,5 +94,10 @@ pub use x86_64::RelaxationKind;
 pub use x86_64::RelocationModifier;
 pub use x86_64::relocation_from_raw;
 
+/// The code in README.md is tested.
+#[cfg(doctest)]
+#[doc = include_str!("../README.md")]
+pub struct Readme;
+
 /// The version of this crate, of `include/jitamoro.h` (`JITAMORO_VERSION`) and of the archive.
 pub const VERSION: &str = env!("CARGO_PKG_VERSION");
