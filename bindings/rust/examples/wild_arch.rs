@@ -475,7 +475,7 @@ mod linker_utils {
     }
 
     pub(crate) mod elf {
-        /// Wild has 38: the sixteen of x86-64 are among them.
+        /// Wild has 42: the sixteen of x86-64 are among them.
         #[rustfmt::skip]
         #[derive(Debug, PartialEq)]
         pub(crate) enum RelocationKind {
