@@ -3,27 +3,8 @@
 #include <jitamoro.h>
 #include <stdio.h>
 
-/* What a refusal's number means; NULL for a number that this program doesn't expect. */
-static const char *meaning(uint8_t refusal) {
-    switch (refusal) {
-    case JITAMORO_REFUSED_SECTION_LENGTH: return "section too long";
-    case JITAMORO_REFUSED_OFFSET: return "offset past the section's end";
-    case JITAMORO_REFUSED_FLAGS: return "no such flags";
-    case JITAMORO_REFUSED_OUTPUT_KIND: return "no such output kind";
-    case JITAMORO_REFUSED_WINDOW: return "instruction not whole in the section";
-    case JITAMORO_REFUSED_PLT_LENGTH: return "PLT buffer not 16 bytes long";
-    case JITAMORO_REFUSED_PLT_REACH: return "GOT entry out of reach";
-    case JITAMORO_REFUSED_PASS_ENDED: return "the pass has ended";
-    case JITAMORO_REFUSED_ORDER: return "offset below the last record's";
-    case JITAMORO_REFUSED_OVERLAP: return "overlaps what was rewritten last";
-    case JITAMORO_REFUSED_SKIP_PENDING: return "a record is still to be skipped";
-    default: return NULL;
-    }
-}
-
 static void print_refusal(uint8_t refusal) {
-    const char *text = meaning(refusal);
-    printf("refused, %d: %s\n", refusal, text ? text : "unexpected");
+    printf("refused, %d: %s\n", refusal, jitamoro_refusal_text(refusal));
 }
 
 static void print_bytes(const uint8_t *bytes, size_t len) {
@@ -33,27 +14,41 @@ static void print_bytes(const uint8_t *bytes, size_t len) {
     puts("");
 }
 
-static void print_relaxed(const struct jitamoro_relaxed *r) {
-    if (r->choice.refusal != JITAMORO_NOT_REFUSED) {
-        print_refusal(r->choice.refusal);
-    } else if (!r->choice.chosen) {
-        puts("none");
-    } else {
-        printf("kind %d, now type %" PRIu32 " at %" PRIu64 ", addend %" PRId64 "\n", r->choice.kind, r->choice.new_type,
-               r->offset, r->addend);
+/* What became of a record. Under a refusal nothing has changed; where nothing was chosen the record is as it was. */
+static void print_choice(struct jitamoro_choice choice, const struct jitamoro_record *now) {
+    if (choice.refusal != JITAMORO_NOT_REFUSED) {
+        print_refusal(choice.refusal);
+        return;
     }
+    printf("%s, to be filled: %s at %" PRIu64 ", addend %" PRId64 "\n",
+           choice.chosen ? jitamoro_kind_name(choice.kind) : "none", jitamoro_r_type_name(now->r_type), now->offset,
+           now->addend);
 }
 
-/* mov x@GOTPCREL(%rip), %r13 becomes mov $x, %r13 */
-static bool one_record(void) {
+/* A record of a statically linked program, whose symbol lies at 0x401000. */
+static struct jitamoro_record record_at(uint32_t r_type, uint64_t offset) {
+    struct jitamoro_record record = {
+        .r_type = r_type,
+        .offset = offset,
+        .addend = -4,
+        .address = 0x401000,
+        .flags = JITAMORO_FLAG_NON_INTERPOSABLE,
+        .output_kind = JITAMORO_OUTPUT_STATIC_FIXED,
+        .executable = true,
+    };
+    return record;
+}
+
+/* mov x@GOTPCREL(%rip), %r13 becomes mov $x, %r13; with another addend nothing is done */
+static bool one_record(int64_t addend) {
     uint8_t section[7] = {0x4c, 0x8b, 0x2d};
-    struct jitamoro_relaxed r =
-        jitamoro_relax(JITAMORO_R_X86_64_REX_GOTPCRELX, section, sizeof section, 3, JITAMORO_FLAG_NON_INTERPOSABLE,
-                       JITAMORO_OUTPUT_STATIC_FIXED, true, 0x401000, -4);
+    struct jitamoro_record record = record_at(JITAMORO_R_X86_64_REX_GOTPCRELX, 3);
+    record.addend = addend;
+    struct jitamoro_choice choice = jitamoro_relax_record(&record, section, sizeof section);
     printf("one record: ");
-    print_relaxed(&r);
+    print_choice(choice, &record);
     print_bytes(section, sizeof section);
-    return r.choice.refusal == JITAMORO_NOT_REFUSED;
+    return choice.refusal == JITAMORO_NOT_REFUSED;
 }
 
 /* A record of the walk: what it is, and where. */
@@ -63,25 +58,24 @@ struct place {
     uint64_t offset;
 };
 
-/* Steps over one record; a refused one leaves pass and section as they were, and the walk goes on. */
+/* Steps over one record; a refused one leaves pass, record and section as they were, and the walk goes on. */
 static void step(struct jitamoro_pass *pass, const struct place *place, uint8_t *section, size_t len) {
-    struct jitamoro_step s =
-        jitamoro_pass_step(pass, place->r_type, section, len, place->offset, JITAMORO_FLAG_NON_INTERPOSABLE,
-                           JITAMORO_OUTPUT_STATIC_FIXED, true, 0x401000, -4);
+    struct jitamoro_record record = record_at(place->r_type, place->offset);
+    struct jitamoro_step s = jitamoro_step_record(pass, &record, section, len);
     printf("  %s at %" PRIu64 ": ", place->name, place->offset);
     if (s.skipped) {
         puts("skipped");
     } else {
-        print_relaxed(&s.relaxed);
+        print_choice(s.relaxed.choice, &record);
     }
 }
 
-/* A general-dynamic sequence with its call, and a load. Two records are out of place. */
+/* A general-dynamic sequence with its call, a load and an address. Two records are out of place. */
 static bool walk(void) {
     static const struct place places[] = {
         {"tlsgd", JITAMORO_R_X86_64_TLSGD, 4},         {"call", JITAMORO_R_X86_64_PLT32, 12},
         {"load", JITAMORO_R_X86_64_REX_GOTPCRELX, 19}, {"late", JITAMORO_R_X86_64_PC32, 7},
-        {"outside", JITAMORO_R_X86_64_PC32, 24},
+        {"address", JITAMORO_R_X86_64_32S, 19},        {"outside", JITAMORO_R_X86_64_PC32, 24},
     };
     uint8_t section[] = {0x66, 0x48, 0x8d, 0x3d, 0, 0, 0, 0, /* lea x@tlsgd(%rip), %rdi */
                          0x66, 0x66, 0x48, 0xe8, 0, 0, 0, 0, /* call __tls_get_addr */
@@ -114,7 +108,7 @@ static void plt_entry(uint64_t got_address, uint64_t plt_address) {
 }
 
 int main(void) {
-    bool fine = one_record();
+    bool fine = one_record(-4) && one_record(-3);
     fine = walk() && fine;
     plt_entry(0x404000, 0x401020);
     plt_entry(0x100404000, 0x401020);

@@ -1,6 +1,7 @@
 /*
- * What C sees of the library, by document 01 alone: the version, every word of a pass after a step, and the order
- * of the refusals, with the longest section and one byte more, and the ends of the ranges.
+ * What C sees of the library, by document 01 alone: the version, every word of a pass after a step, records held in
+ * place, the texts of numbers, the order of the refusals, with the longest section and one byte more, and the ends of
+ * the ranges.
  */
 #define _DEFAULT_SOURCE
 #include <jitamoro.h>
@@ -97,6 +98,82 @@ static void any_words(void) {
         EXPECT(jitamoro_pass_end(&pass), JITAMORO_REFUSED_PASS_ENDED);
         EXPECT_PASS(7, 9, 0, yes[i]);
     }
+}
+
+/* ---- Records held in place: relaxed, none, refused, skipped */
+
+static struct jitamoro_record load_at(uint64_t offset, int64_t addend) {
+    struct jitamoro_record record = {
+        .r_type = JITAMORO_R_X86_64_REX_GOTPCRELX, .offset = offset, .addend = addend, .address = 0x401000,
+        .flags = JITAMORO_FLAG_NON_INTERPOSABLE, .output_kind = JITAMORO_OUTPUT_STATIC_FIXED, .executable = true,
+    };
+    return record;
+}
+
+/* What fills the field, and that nothing else of the record has changed. */
+static void expect_record(int line, const struct jitamoro_record *record, uint32_t r_type, uint64_t offset,
+                          int64_t addend) {
+    expect(line, "r_type", record->r_type, r_type);
+    expect(line, "offset", record->offset, offset);
+    expect(line, "addend", (uint64_t)record->addend, (uint64_t)addend);
+    expect(line, "address", record->address, 0x401000);
+    expect(line, "flags", record->flags, JITAMORO_FLAG_NON_INTERPOSABLE);
+    expect(line, "output_kind", record->output_kind, JITAMORO_OUTPUT_STATIC_FIXED);
+    expect(line, "executable", record->executable, true);
+}
+
+#define EXPECT_RECORD(...) expect_record(__LINE__, &record, __VA_ARGS__)
+
+static void records(void) {
+    uint8_t section[32] = {0x66, 0x48, 0x8d, 0x3d, 0, 0, 0, 0, 0x66, 0x66, 0x48, 0xe8, 0, 0, 0, 0, 0x4c, 0x8b, 0x2d};
+    struct jitamoro_record record = load_at(19, -3);
+    EXPECT(jitamoro_relax_record(&record, section, sizeof section).chosen, false);
+    EXPECT_RECORD(42, 19, -3);
+    record = load_at(33, -4);
+    EXPECT(jitamoro_relax_record(&record, section, sizeof section).refusal, JITAMORO_REFUSED_OFFSET);
+    EXPECT_RECORD(42, 33, -4);
+    record = load_at(19, -4);
+    EXPECT(jitamoro_choose_record(&record, section, sizeof section).kind, JITAMORO_KIND_REX_MOV_INDIRECT_TO_ABSOLUTE);
+    EXPECT_RECORD(42, 19, -4);
+    EXPECT(jitamoro_relax_record(&record, section, sizeof section).chosen, true);
+    EXPECT_RECORD(11, 19, 0);
+    EXPECT(section[16], 0x49);
+    struct jitamoro_pass pass = jitamoro_pass_fresh();
+    record = load_at(4, -4);
+    record.r_type = JITAMORO_R_X86_64_TLSGD;
+    EXPECT(jitamoro_step_record(&pass, &record, section, sizeof section).relaxed.choice.chosen, true);
+    EXPECT_RECORD(23, 12, 0);
+    record = load_at(12, -4);
+    EXPECT(jitamoro_step_record(&pass, &record, section, sizeof section).skipped, true);
+    EXPECT_RECORD(42, 12, -4);
+    record = load_at(3, -4);
+    struct jitamoro_step s = jitamoro_step_record(&pass, &record, section, sizeof section);
+    EXPECT(s.relaxed.choice.refusal, JITAMORO_REFUSED_ORDER);
+    EXPECT_RECORD(42, 3, -4);
+    EXPECT_PASS(12, 12, 0, 0);
+}
+
+/* ---- Texts: each number has one, and those of a table differ */
+
+static void texts(void) {
+    EXPECT(strcmp(jitamoro_refusal_text(6), "the bytes to rewrite don't lie wholly in the section"), 0);
+    EXPECT(strcmp(jitamoro_kind_name(14), "TlsLdToLocalExec64"), 0);
+    EXPECT(strcmp(jitamoro_r_type_name(42), "R_X86_64_REX_GOTPCRELX"), 0);
+    EXPECT(strcmp(jitamoro_output_name(3), "dynamic position-independent"), 0);
+    unsigned refusals = 0, kinds = 0, types = 0, outputs = 0;
+    for (unsigned n = 0; n < 256; n++) {
+        refusals += strcmp(jitamoro_refusal_text((uint8_t)n), "no such refusal") != 0;
+        kinds += strcmp(jitamoro_kind_name((uint8_t)n), "no such kind") != 0;
+        types += strcmp(jitamoro_r_type_name(n), "no such type") != 0;
+        outputs += strcmp(jitamoro_output_name((uint8_t)n), "no such output kind") != 0;
+        for (unsigned m = 0; m < n && n <= 18; m++) {
+            EXPECT(strcmp(jitamoro_kind_name((uint8_t)n), jitamoro_kind_name((uint8_t)m)) != 0, true);
+        }
+    }
+    EXPECT(refusals, 18);
+    EXPECT(kinds, 19);
+    EXPECT(types, 50);
+    EXPECT(outputs, 6);
 }
 
 /* ---- The order of the refusals */
@@ -243,12 +320,14 @@ int main(void) {
     version();
     pass_words();
     any_words();
+    records();
+    texts();
     order();
     others();
     ranges();
     if (failures != 0) {
         return 1;
     }
-    puts("interface: the version, a pass's words, the refusals' order and the ranges are as they should be");
+    puts("interface: the version, a pass's words, records, texts, the refusals' order and the ranges are right");
     return 0;
 }

@@ -22,7 +22,8 @@
  *      303      8  the 8 bytes at (rsp before) - 8, after
  *
  * Every byte of the test memory that is neither instruction nor slot is A5
- * before the step. Standard error gets a summary.
+ * before the step. Standard error gets a summary. Exit status: 0; 77 where no
+ * step could be made at all, as where ptrace isn't allowed; 1 for all else.
  */
 #define _GNU_SOURCE
 #include <errno.h>
@@ -47,6 +48,10 @@
 #define RSP 4
 #define NO_PREFIX (-1)
 
+#define NO_STEP 77
+
+static int failure = NO_STEP;      /* 1 once a step was made */
+
 static void fail(const char *format, ...)
 {
     va_list args;
@@ -55,7 +60,7 @@ static void fail(const char *format, ...)
     vfprintf(stderr, format, args);
     fputc('\n', stderr);
     va_end(args);
-    exit(1);
+    exit(failure);
 }
 
 /*
@@ -217,6 +222,8 @@ static void wait_for_stop(int signal_wanted)
     int status;
     if (waitpid(child, &status, 0) != child)
         fail("waitpid: %s", strerror(errno));
+    if (WIFEXITED(status))         /* only a child that couldn't be traced: start_child */
+        fail("PTRACE_TRACEME: %s", strerror(WEXITSTATUS(status)));
     if (!WIFSTOPPED(status) || WSTOPSIG(status) != signal_wanted)
         fail("status %x where a stop by signal %d was due", (unsigned)status, signal_wanted);
 }
@@ -232,6 +239,7 @@ static void step(int signal_wanted)
     if (ptrace(PTRACE_SINGLESTEP, child, NULL, NULL) != 0)
         fail("PTRACE_SINGLESTEP: %s", strerror(errno));
     wait_for_stop(signal_wanted);
+    failure = 1;
 }
 
 static struct user_regs_struct at_start;
@@ -244,7 +252,7 @@ static void start_child(void)
     if (child == 0) {
         if (ptrace(PTRACE_TRACEME, 0, NULL, NULL) == 0)
             raise(SIGSTOP);
-        _exit(1);
+        _exit(errno);
     }
     wait_for_stop(SIGSTOP);
     if (ptrace(PTRACE_SETOPTIONS, child, NULL, PTRACE_O_EXITKILL) != 0)

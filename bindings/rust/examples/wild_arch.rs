@@ -71,7 +71,12 @@ impl platform::Arch for ElfX86_64 {
             sym_addr,
             rel_addend,
         )
-        .with_context(|| format!("Failed to relax relocation at {offset_in_section:#x}"))?;
+        .with_context(|| {
+            format!(
+                "Failed to relax {} at {offset_in_section:#x}",
+                Self::rel_type_to_string(relocation_kind)
+            )
+        })?;
         Ok(relaxation.filter(|relaxation| !is_malfunction(relaxation.kind())))
     }
 
@@ -84,8 +89,9 @@ impl platform::Arch for ElfX86_64 {
     }
 
     fn rel_type_to_string(r_type: object::elf::RelocationType) -> std::borrow::Cow<'static, str> {
-        // Wild's own, unchanged: x86_64_rel_type_to_string(r_type).
-        format!("{r_type:?}").into()
+        // Wild's own, unchanged: linker_utils::elf::x86_64_rel_type_to_string(r_type).
+        let text = jitamoro::elf::x86_64_rel_type_to_string(r_type.0);
+        text.to_string().into()
     }
 }
 
@@ -193,8 +199,9 @@ fn rel_info(info: jitamoro::RelocationKindInfo) -> RelocationKindInfo {
 }
 
 fn main() {
+    use jitamoro::elf::*;
     use platform::Arch as _;
-    for r_type in [2, 28] {
+    for r_type in [R_X86_64_PC32, R_X86_64_GOTPCREL64] {
         println!(
             "{:?}",
             ElfX86_64::relocation_from_raw(object::elf::RelocationType(r_type))
@@ -205,6 +212,7 @@ fn main() {
 #[cfg(test)]
 mod tests {
     use super::*;
+    use jitamoro::elf::*;
     use object::elf::RelocationType;
     use object::elf::SHF_EXECINSTR;
     use platform::Arch as _;
@@ -251,39 +259,56 @@ mod tests {
             }
         };
         check(
-            42,
+            R_X86_64_REX_GOTPCRELX,
             &[0x48, 0x8b, 0x2d],
             &[0x48, 0x8d, 0x2d],
             &[0x48, 0xc7, 0xc5],
         );
         check(
-            43,
+            R_X86_64_CODE_4_GOTPCRELX,
             &[0xd5, 0x48, 0x8b, 0x2d],
             &[0xd5, 0x48, 0x8d, 0x2d],
             &[0xd5, 0x18, 0xc7, 0xc5],
         );
-        check(41, &[0x8b, 0x2d], &[0x8d, 0x2d], &[0xc7, 0xc5]);
+        check(
+            R_X86_64_GOTPCRELX,
+            &[0x8b, 0x2d],
+            &[0x8d, 0x2d],
+            &[0xc7, 0xc5],
+        );
     }
 
     #[test]
     fn rows_and_errors() {
-        let plt32 = ElfX86_64::relocation_from_raw(RelocationType(4)).unwrap();
+        let plt32 = ElfX86_64::relocation_from_raw(RelocationType(R_X86_64_PLT32)).unwrap();
         assert_eq!(plt32.kind, RelocationKind::PltRelative);
         assert_eq!(plt32.range, AllowedRange::new(-(1 << 31), 1 << 31));
-        let error = ElfX86_64::relocation_from_raw(RelocationType(28)).unwrap_err();
-        assert!(format!("{error:?}").contains("type not among the 39"));
-        let r = relaxation(42, &[0x48, 0x8b, 0x2d], ValueFlags::NON_INTERPOSABLE);
+        let wide = RelocationType(R_X86_64_GOTPCREL64);
+        let error = ElfX86_64::relocation_from_raw(wide).unwrap_err();
+        let expected = [
+            "the relocation type isn't among the 39 that are known",
+            "Unsupported relocation type R_X86_64_GOTPCREL64",
+        ];
+        assert_eq!(error.0, expected);
+        let load = [0x48, 0x8b, 0x2d];
+        let r = relaxation(R_X86_64_REX_GOTPCRELX, &load, ValueFlags::NON_INTERPOSABLE);
         assert_eq!(
             platform::Relaxation::rel_info(&r).kind,
             RelocationKind::Relative
         );
         let short = platform::Relaxation::apply(&r, &mut [0x2d], &mut 1, &mut -4);
-        assert!(format!("{:?}", short.unwrap_err()).contains("window not wholly inside"));
+        let expected = [
+            "the bytes to rewrite don't lie wholly in the section",
+            "Failed to apply MovIndirectToLea",
+        ];
+        assert_eq!(short.unwrap_err().0, expected);
     }
+
     #[test]
     fn section_flags_and_dynamic_types() {
         let (none, known) = (SectionFlags(0), ValueFlags::NON_INTERPOSABLE);
-        assert!(choose(42, &[0x48, 0x8b, 0x2d], known, none).is_none());
+        let load = [0x48, 0x8b, 0x2d];
+        assert!(choose(R_X86_64_REX_GOTPCRELX, &load, known, none).is_none());
         for (section_flags, byte) in [(none, 0), (SHF_EXECINSTR, 0xcc)] {
             let mut buf = [0xaa; 3];
             ElfX86_64::fill_section_padding(&mut buf, section_flags);
@@ -293,7 +318,7 @@ mod tests {
         ElfX86_64::fill_nop_padding(&mut buf);
         assert_eq!(buf, [0xcc; 3]);
         let r_type = ElfX86_64::get_dynamic_relocation_type(DynamicRelocationKind::JumpSlot);
-        assert_eq!(r_type.0, 7);
+        assert_eq!(r_type.0, R_X86_64_JUMP_SLOT);
     }
 }
 
@@ -352,7 +377,7 @@ mod error {
     pub(crate) type Result<T = (), E = Error> = core::result::Result<T, E>;
 
     #[derive(Debug)]
-    pub(crate) struct Error(Vec<String>);
+    pub(crate) struct Error(pub(super) Vec<String>);
 
     impl<E: std::fmt::Display> From<E> for Error {
         fn from(value: E) -> Self {
@@ -450,7 +475,7 @@ mod linker_utils {
     }
 
     pub(crate) mod elf {
-        /// Wild has 38: the sixteen of x86-64 are among them.
+        /// Wild has 42: the sixteen of x86-64 are among them.
         #[rustfmt::skip]
         #[derive(Debug, PartialEq)]
         pub(crate) enum RelocationKind {

@@ -1,179 +1,100 @@
-//! elf.rs, as far as x86-64 uses it.
+//! Relocation types by the psABI's names, as `object::elf` has them, and the names of their numbers, as elf.rs gives
+//! them.
 
-use crate::numbered::answered;
-use crate::numbered::numbered;
-use crate::sys;
+use core::fmt;
 
-numbered! {
-    /// What is to be written into a relocation's field: the sixteen of wild's kinds that x86-64 uses,
-    /// in wild's order.
-    pub enum RelocationKind {
-        /// The absolute address of a symbol or section.
-        Absolute = 0,
-        /// The size of a symbol rather than its address.
-        SymbolSize = 1,
-        /// The address of the symbol, relative to the place of the relocation.
-        Relative = 2,
-        /// The address of the symbol, relative to the base address of the GOT.
-        SymRelGotBase = 3,
-        /// The offset of the symbol's GOT entry, relative to the start of the GOT.
-        GotRelGotBase = 4,
-        /// The address of the symbol's PLT entry, relative to the base address of the GOT.
-        PltRelGotBase = 5,
-        /// The address of the symbol's PLT entry, relative to the place of the relocation.
-        PltRelative = 6,
-        /// The address of the symbol's GOT entry, relative to the place of the relocation.
-        GotRelative = 7,
-        /// The address of a TLSGD structure, relative to the place of the relocation.
-        TlsGd = 8,
-        /// The address of the TLS module ID, relative to the place of the relocation.
-        TlsLd = 9,
-        /// The offset of a thread-local within the TLS storage of the DSO that defines it.
-        DtpOff = 10,
-        /// The address of a GOT entry with a TLS offset, relative to the place of the relocation.
-        GotTpOff = 11,
-        /// The offset of a TLS variable within the executable's TLS storage.
-        TpOff = 12,
-        /// The address of a TLS descriptor structure, relative to the place of the relocation.
-        TlsDesc = 13,
-        /// Call to the TLS descriptor trampoline.
-        TlsDescCall = 14,
-        /// No relocation needs to be applied.
-        None = 15,
-    }
-}
+/// Constants in groups, each with its documentation, and the function that gives their names.
+macro_rules! relocation_types {
+    ($($group:literal: $($name:ident = $number:literal)*;)*) => {
+        $($(
+            #[doc = concat!("Type ", $number, ". ", $group)]
+            pub const $name: u32 = $number;
+        )*)*
 
-numbered! {
-    /// Relocations for the dynamic linker, in wild's order.
-    pub enum DynamicRelocationKind {
-        /// Copies a symbol's value out of a shared object.
-        Copy = 0,
-        /// The result of an ifunc's resolver.
-        Irelative = 1,
-        /// The number of a TLS module.
-        DtpMod = 2,
-        /// The offset of a variable within its module's TLS storage.
-        DtpOff = 3,
-        /// A TLS descriptor.
-        TlsDesc = 4,
-        /// The offset of a TLS variable from the thread pointer.
-        TpOff = 5,
-        /// The load address plus an addend.
-        Relative = 6,
-        /// The absolute address of a symbol.
-        Absolute = 7,
-        /// The address of a symbol, in the GOT.
-        GotEntry = 8,
-        /// The address of a function, in the GOT of the PLT.
-        JumpSlot = 9,
-    }
-}
-
-impl DynamicRelocationKind {
-    /// The relocation type on x86-64.
-    #[must_use]
-    pub fn x86_64_r_type(self) -> u32 {
-        sys::jitamoro_x86_64_r_type(u32::from(self.number()))
-    }
-}
-
-/// The size of a relocation's field. x86-64 has no bit masks.
-#[derive(Debug, Clone, Copy, PartialEq, Eq)]
-pub enum RelocationSize {
-    /// So many bytes.
-    ByteSize(u8),
-}
-
-/// Wild's page masks, of which x86-64 has none.
-#[derive(Debug, Clone, Copy, PartialEq, Eq)]
-pub enum PageMask {}
-
-/// Wild's biases, of which x86-64 has none.
-#[derive(Debug, Clone, Copy, PartialEq, Eq)]
-pub enum Bias {}
-
-/// Allowed range (half-open) of a computed value of a relocation.
-#[derive(Debug, Clone, Copy, PartialEq, Eq)]
-pub struct AllowedRange {
-    /// False: every value is allowed, i64::MAX too, and the ends are 0.
-    pub checked: bool,
-    /// The least value.
-    pub min: i64,
-    /// The end, which isn't allowed itself.
-    pub max: i64,
-}
-
-impl AllowedRange {
-    /// The values from `min` on that are below `max`.
-    #[must_use]
-    pub const fn new(min: i64, max: i64) -> Self {
-        Self {
-            checked: true,
-            min,
-            max,
+        /// The psABI's name of a relocation type. 39 and 40, which are no longer in use, have none here.
+        #[must_use]
+        pub const fn x86_64_rel_type_name(r_type: u32) -> Option<&'static str> {
+            match r_type {
+                $($($name => Some(stringify!($name)),)*)*
+                _ => None,
+            }
         }
-    }
-
-    /// Every value.
-    #[must_use]
-    pub const fn no_check() -> Self {
-        Self {
-            checked: false,
-            min: 0,
-            max: 0,
-        }
-    }
-
-    /// Whether the value is allowed.
-    #[must_use]
-    pub fn contains(&self, value: i64) -> bool {
-        sys::jitamoro_allowed_range_contains(self.checked, self.min, self.max, value)
-    }
+    };
 }
 
-/// The row of a relocation type.
-#[derive(Debug, Clone, Copy, PartialEq, Eq)]
-pub struct RelocationKindInfo {
-    /// What is to be written.
-    pub kind: RelocationKind,
-    /// How large the field is.
-    pub size: RelocationSize,
-    /// Always none.
-    pub mask: Option<PageMask>,
-    /// The values that may be written.
-    pub range: AllowedRange,
-    /// What the value must be a multiple of.
-    pub alignment: u8,
-    /// Always none.
-    pub bias: Option<Bias>,
-    /// Whether this relocation type supports range-extension thunks.
-    pub thunkable: bool,
-    /// Whether this relocation assumes an implicit addend at the place of the relocation.
-    pub implicit_addend: bool,
+relocation_types! {
+    "Has a row in [`relocation_from_raw`](crate::relocation_from_raw).":
+        R_X86_64_NONE = 0
+        R_X86_64_64 = 1
+        R_X86_64_PC32 = 2
+        R_X86_64_GOT32 = 3
+        R_X86_64_PLT32 = 4
+        R_X86_64_GOTPCREL = 9
+        R_X86_64_32 = 10
+        R_X86_64_32S = 11
+        R_X86_64_16 = 12
+        R_X86_64_PC16 = 13
+        R_X86_64_8 = 14
+        R_X86_64_PC8 = 15
+        R_X86_64_DTPOFF64 = 17
+        R_X86_64_TLSGD = 19
+        R_X86_64_TLSLD = 20
+        R_X86_64_DTPOFF32 = 21
+        R_X86_64_GOTTPOFF = 22
+        R_X86_64_TPOFF32 = 23
+        R_X86_64_PC64 = 24
+        R_X86_64_GOTOFF64 = 25
+        R_X86_64_GOTPC32 = 26
+        R_X86_64_GOT64 = 27
+        R_X86_64_GOTPC64 = 29
+        R_X86_64_PLTOFF64 = 31
+        R_X86_64_SIZE32 = 32
+        R_X86_64_SIZE64 = 33
+        R_X86_64_GOTPC32_TLSDESC = 34
+        R_X86_64_TLSDESC_CALL = 35
+        R_X86_64_GOTPCRELX = 41
+        R_X86_64_REX_GOTPCRELX = 42
+        R_X86_64_CODE_4_GOTPCRELX = 43
+        R_X86_64_CODE_4_GOTTPOFF = 44
+        R_X86_64_CODE_4_GOTPC32_TLSDESC = 45
+        R_X86_64_CODE_5_GOTPCRELX = 46
+        R_X86_64_CODE_5_GOTTPOFF = 47
+        R_X86_64_CODE_5_GOTPC32_TLSDESC = 48
+        R_X86_64_CODE_6_GOTPCRELX = 49
+        R_X86_64_CODE_6_GOTTPOFF = 50
+        R_X86_64_CODE_6_GOTPC32_TLSDESC = 51;
+
+    "For a dynamic linker, as [`x86_64_r_type`](crate::DynamicRelocationKind::x86_64_r_type) answers it.":
+        R_X86_64_COPY = 5
+        R_X86_64_GLOB_DAT = 6
+        R_X86_64_JUMP_SLOT = 7
+        R_X86_64_RELATIVE = 8
+        R_X86_64_DTPMOD64 = 16
+        R_X86_64_TPOFF64 = 18
+        R_X86_64_TLSDESC = 36
+        R_X86_64_IRELATIVE = 37;
+
+    "Neither taken nor given by the library: named for messages.":
+        R_X86_64_GOTPCREL64 = 28
+        R_X86_64_GOTPLT64 = 30
+        R_X86_64_RELATIVE64 = 38;
 }
 
-impl RelocationKindInfo {
-    /// The row of an answer that is no refusal.
-    pub(crate) fn from_answer(answer: &sys::RelocationAnswer) -> Self {
-        let sys::RelocationAnswer { mask, bias, .. } = *answer;
-        assert!(
-            !mask && !bias,
-            "libjitamoro.a answered a mask or a bias, against its contract"
-        );
-        let kind = RelocationKind::from_number(answer.kind);
-        Self {
-            kind: answered(kind, "relocation kind", answer.kind),
-            size: RelocationSize::ByteSize(answer.size),
-            mask: None,
-            range: AllowedRange {
-                checked: answer.checked,
-                min: answer.min,
-                max: answer.max,
-            },
-            alignment: answer.alignment,
-            bias: None,
-            thunkable: answer.thunkable,
-            implicit_addend: answer.implicit_addend,
+/// A relocation type for messages, in wild's words: its name, or "Unknown x86_64 relocation type 0x34".
+///
+/// Wild's function of this name answers a `Cow<str>`, which only `alloc` has.
+#[must_use]
+pub fn x86_64_rel_type_to_string(r_type: u32) -> impl fmt::Display {
+    RelType(r_type)
+}
+
+struct RelType(u32);
+
+impl fmt::Display for RelType {
+    fn fmt(&self, f: &mut fmt::Formatter<'_>) -> fmt::Result {
+        match x86_64_rel_type_name(self.0) {
+            Some(name) => f.pad(name),
+            None => write!(f, "Unknown x86_64 relocation type {:#x}", self.0),
         }
     }
 }

@@ -1,20 +1,22 @@
 //! elf_x86_64.rs: choosing and carrying out a relaxation, PLT entries and padding.
 
-use crate::elf::RelocationKindInfo;
+use crate::elf::x86_64_rel_type_name;
 use crate::numbered::answered;
 use crate::output_kind::OutputKind;
 use crate::refusal::Refusal;
 use crate::refusal::check;
+use crate::relocation::RelocationKindInfo;
 use crate::sys;
 use crate::value_flags::ValueFlags;
 use crate::x86_64::RelaxationKind;
 use crate::x86_64::RelocationModifier;
 use crate::x86_64::relocation_from_raw;
+use core::fmt;
 
 /// A relocation record, with what relaxing asks of its symbol, section and output.
 #[derive(Debug, Clone, Copy, PartialEq, Eq)]
 pub struct Record {
-    /// The relocation type.
+    /// The relocation type, as [`R_X86_64_PC32`](crate::elf::R_X86_64_PC32).
     pub relocation_kind: u32,
     /// Where the field lies in the section.
     pub offset_in_section: u64,
@@ -28,6 +30,18 @@ pub struct Record {
     pub sym_addr: u64,
     /// The record's addend.
     pub rel_addend: i64,
+}
+
+/// Which record, for messages: "R_X86_64_TLSGD at offset 0x4", or "type 52 at offset 0x4" where the type has no
+/// name.
+impl fmt::Display for Record {
+    fn fmt(&self, f: &mut fmt::Formatter<'_>) -> fmt::Result {
+        match x86_64_rel_type_name(self.relocation_kind) {
+            Some(name) => f.write_str(name)?,
+            None => write!(f, "type {}", self.relocation_kind)?,
+        }
+        write!(f, " at offset {:#x}", self.offset_in_section)
+    }
 }
 
 /// Calls a function of `sys` with a record's numbers and a section.
@@ -98,7 +112,7 @@ impl Relaxation {
 
     /// The kind, for messages.
     #[must_use]
-    pub fn debug_kind(&self) -> impl std::fmt::Debug {
+    pub fn debug_kind(&self) -> impl fmt::Debug {
         &self.kind
     }
 

@@ -4,6 +4,7 @@ use crate::numbered::predicates;
 use crate::refusal::Refusal;
 use crate::refusal::check;
 use crate::sys;
+use core::fmt;
 
 /// Whether an executable's load address is fixed.
 #[derive(Debug, Clone, Copy, PartialEq, Eq, Hash)]
@@ -27,15 +28,25 @@ pub enum OutputKind {
     PartialLink,
 }
 
-/// The output kinds in the order of their numbers.
-const NUMBERED: [OutputKind; 6] = [
-    OutputKind::StaticExecutable(RelocationModel::Fixed),
-    OutputKind::StaticExecutable(RelocationModel::PositionIndependent),
-    OutputKind::DynamicExecutable(RelocationModel::Fixed),
-    OutputKind::DynamicExecutable(RelocationModel::PositionIndependent),
-    OutputKind::SharedObject,
-    OutputKind::PartialLink,
-];
+/// The output kinds in the order of their numbers, with the header's names.
+const NUMBERED: [(OutputKind, &str); 6] = {
+    use OutputKind::*;
+    use RelocationModel::*;
+    [
+        (StaticExecutable(Fixed), "static fixed"),
+        (
+            StaticExecutable(PositionIndependent),
+            "static position-independent",
+        ),
+        (DynamicExecutable(Fixed), "dynamic fixed"),
+        (
+            DynamicExecutable(PositionIndependent),
+            "dynamic position-independent",
+        ),
+        (SharedObject, "shared object"),
+        (PartialLink, "partial link"),
+    ]
+};
 
 impl OutputKind {
     /// The output kind's number, 0 to 5.
@@ -55,7 +66,13 @@ impl OutputKind {
     /// [`Refusal::OutputKindNumber`].
     pub fn from_number(number: u8) -> Result<Self, Refusal> {
         check(sys::jitamoro_output_kind(number).refusal)?;
-        Ok(NUMBERED[usize::from(number)])
+        Ok(NUMBERED[usize::from(number)].0)
+    }
+
+    /// The output kind for messages, as "static position-independent".
+    #[must_use]
+    pub const fn name(self) -> &'static str {
+        NUMBERED[self.number() as usize].1
     }
 
     fn answer(self) -> sys::OutputKindAnswer {
@@ -72,5 +89,11 @@ impl OutputKind {
         is_position_independent;
         /// Whether the output is an executable with a fixed load address.
         has_fixed_load_address;
+    }
+}
+
+impl fmt::Display for OutputKind {
+    fn fmt(&self, f: &mut fmt::Formatter<'_>) -> fmt::Result {
+        f.pad(self.name())
     }
 }

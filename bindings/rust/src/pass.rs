@@ -10,10 +10,10 @@ use crate::sys;
 /// A walk over a section's records in the order of their offsets.
 ///
 /// ```
-/// # use jitamoro::{OutputKind, Pass, Record, RelocationModel, Step, ValueFlags};
+/// # use jitamoro::{OutputKind, Pass, Record, RelocationModel, Step, ValueFlags, elf};
 /// let mut section = [0xff, 0x10];
 /// let record = Record {
-///     relocation_kind: 35, // R_X86_64_TLSDESC_CALL
+///     relocation_kind: elf::R_X86_64_TLSDESC_CALL,
 ///     offset_in_section: 0,
 ///     flags: ValueFlags::default(),
 ///     output_kind: OutputKind::DynamicExecutable(RelocationModel::PositionIndependent),

@@ -2,45 +2,77 @@
 
 use crate::numbered::answered;
 use crate::numbered::numbered;
+use core::fmt;
 
-/// The refusals with document 01's numbers and sentences.
+/// The refusals with document 01's numbers and the header's sentences.
 macro_rules! refusals {
     ($($variant:ident = $number:literal, $sentence:literal;)*) => {
         numbered! {
             /// Why the library refused. A refusal changes nothing that was lent, but for the buffer of a
             /// PLT entry under [`Refusal::PltOutOfReach`].
+            ///
+            /// Displayed, it is a sentence that a linker can show its user after the record
+            /// ([`Record`](crate::Record) is displayed too) and the names of file and section:
+            ///
+            /// ```
+            /// # use jitamoro::{OutputKind, Record, RelocationModel, ValueFlags, elf, relax};
+            /// # let mut section = [0xff, 0x25, 0];
+            /// # let record = Record {
+            /// #     relocation_kind: elf::R_X86_64_GOTPCRELX,
+            /// #     offset_in_section: 2,
+            /// #     flags: ValueFlags::NON_INTERPOSABLE,
+            /// #     output_kind: OutputKind::StaticExecutable(RelocationModel::Fixed),
+            /// #     executable: true,
+            /// #     sym_addr: 0x401000,
+            /// #     rel_addend: -4,
+            /// # };
+            /// let refusal = relax(&record, &mut section).unwrap_err();
+            /// assert_eq!(
+            ///     format!("a.o: .text: relocation {record}: {refusal}"),
+            ///     "a.o: .text: relocation R_X86_64_GOTPCRELX at offset 0x2: \
+            ///      the bytes to rewrite don't lie wholly in the section",
+            /// );
+            /// ```
             pub enum Refusal {
-                $(#[doc = $sentence] $variant = $number,)*
+                $(#[doc = concat!($number, ": ", $sentence, ".")] $variant = $number,)*
             }
         }
 
-        impl std::fmt::Display for Refusal {
-            fn fmt(&self, f: &mut std::fmt::Formatter<'_>) -> std::fmt::Result {
-                f.write_str(match self {
+        impl Refusal {
+            /// The refusal as a sentence without its full stop.
+            #[must_use]
+            pub const fn text(self) -> &'static str {
+                match self {
                     $(Self::$variant => $sentence,)*
-                })
+                }
             }
         }
     };
 }
 
 refusals! {
-    SectionTooLong = 1, "section longer than 268,435,456";
-    OffsetAboveLength = 2, "offset above the length";
-    FlagNumber = 3, "flag number above 15";
-    OutputKindNumber = 4, "output kind above 5";
-    InstructionOffset = 5, "instruction offset not allowed";
-    WindowNotInside = 6, "window not wholly inside";
-    UnknownType = 7, "type not among the 39";
-    PltEntrySize = 8, "PLT buffer not 16 bytes";
-    PltOutOfReach = 9, "PLT out of reach";
-    PassEnded = 21, "pass ended";
-    OffsetBelowLast = 22, "offset below the last";
-    WindowOverlap = 23, "window begins before the last window's end";
-    SkipPending = 24, "end asked while a skip is pending";
+    SectionTooLong = 1, "the section is longer than 268,435,456 bytes";
+    OffsetAboveLength = 2, "the offset lies past the section's end";
+    FlagNumber = 3, "the flag number is above 15";
+    OutputKindNumber = 4, "the output kind is above 5";
+    InstructionOffset = 5, "the kind has no such instruction offset, or there is no such kind";
+    WindowNotInside = 6, "the bytes to rewrite don't lie wholly in the section";
+    UnknownType = 7, "the relocation type isn't among the 39 that are known";
+    PltEntrySize = 8, "the buffer for a PLT entry isn't 16 bytes long";
+    PltOutOfReach = 9, "the GOT entry is out of reach of the PLT entry";
+    PassEnded = 21, "the pass has ended";
+    OffsetBelowLast = 22, "the offset lies below the last record's";
+    WindowOverlap = 23, "the bytes to rewrite begin before the end of those rewritten last";
+    SkipPending = 24, "the end is asked while a record is still to be skipped";
 }
 
-impl std::error::Error for Refusal {}
+impl fmt::Display for Refusal {
+    fn fmt(&self, f: &mut fmt::Formatter<'_>) -> fmt::Result {
+        f.pad(self.text())
+    }
+}
+
+impl core::error::Error for Refusal {}
 
 /// 0 is no refusal.
 #[inline]

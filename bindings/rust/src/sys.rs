@@ -1,7 +1,10 @@
-//! The exported functions as they are: numbers of document 01, a slice as a pointer and a length. Nothing
-//! checks these declarations against the Rattle source, where each function has its contract.
+//! The exported functions as they are: numbers of document 01, a slice as a pointer and a length. A test holds
+//! the declarations, types and all, against `include/jitamoro.h`. Nothing checks either against the Rattle
+//! source, where each function has its contract, but the tests that call them.
 //!
 //! In an answer `refusal` is 0 or a refusal's number, and then every other field is 0.
+
+use core::mem::offset_of;
 
 /// The predicates of an output kind. Refusal 4.
 #[derive(Debug, Default, Clone, Copy, PartialEq, Eq)]
@@ -93,6 +96,43 @@ pub struct Pass {
 pub struct StepAnswer {
     pub skipped: bool,
     pub relaxed: RelaxedAnswer,
+}
+
+/// Asserts a struct's size and where each of its fields lies, where the crate is compiled.
+macro_rules! layout {
+    ($($name:ident: $size:literal { $($field:ident: $at:literal),* })*) => {$(
+        const _: () = {
+            assert!(size_of::<$name>() == $size, stringify!($name));
+            $(assert!(
+                offset_of!($name, $field) == $at,
+                concat!(stringify!($name), ".", stringify!($field)),
+            );)*
+            // The pattern names every field.
+            const fn _every_field($name { $($field: _),* }: $name) {}
+        };
+    )*};
+}
+
+layout! {
+    OutputKindAnswer: 5 {
+        refusal: 0, is_executable: 1, is_static_executable: 2, is_position_independent: 3,
+        has_fixed_load_address: 4
+    }
+    ValueFlagsAnswer: 6 {
+        refusal: 0, is_dynamic: 1, is_ifunc: 2, has_link_time_address: 3, is_absolute: 4, is_interposable: 5
+    }
+    RelocationAnswer: 32 {
+        refusal: 0, kind: 1, size: 2, checked: 3, mask: 4, bias: 5, thunkable: 6, implicit_addend: 7,
+        alignment: 8, min: 16, max: 24
+    }
+    ChoiceAnswer: 12 {
+        refusal: 0, chosen: 1, kind: 2, inst_offset: 3, mandatory: 4, skip_next: 5, needs_got_fallback: 6,
+        new_type: 8
+    }
+    MovedAnswer: 24 { refusal: 0, offset: 8, addend: 16 }
+    RelaxedAnswer: 32 { choice: 0, offset: 16, addend: 24 }
+    Pass: 32 { last: 0, window: 8, pending: 16, ended: 24 }
+    StepAnswer: 40 { skipped: 0, relaxed: 8 }
 }
 
 // Not bundled: the library is needed where a program is linked, not where this crate is compiled.

@@ -4,8 +4,9 @@ use crate::numbered::predicates;
 use crate::refusal::Refusal;
 use crate::refusal::check;
 use crate::sys;
-use std::ops::BitOr;
-use std::ops::BitOrAssign;
+use core::fmt;
+use core::ops::BitOr;
+use core::ops::BitOrAssign;
 
 /// Flags of a symbol, with wild's bits. Wild's other bits are kept, and change no answer.
 #[derive(Debug, Clone, Copy, PartialEq, Eq, Hash, Default)]
@@ -71,6 +72,34 @@ impl ValueFlags {
         is_absolute;
         /// Whether the definition can be overridden at runtime.
         is_interposable;
+    }
+}
+
+/// The four flags in the order of their numbers, with the header's names.
+const NAMED: [(ValueFlags, &str); 4] = [
+    (ValueFlags::NON_INTERPOSABLE, "non-interposable"),
+    (ValueFlags::ABSOLUTE, "absolute"),
+    (ValueFlags::DYNAMIC, "dynamic"),
+    (ValueFlags::IFUNC, "ifunc"),
+];
+
+/// As "non-interposable + absolute", or "none"; wild's other bits last, as a number.
+impl fmt::Display for ValueFlags {
+    fn fmt(&self, f: &mut fmt::Formatter<'_>) -> fmt::Result {
+        if self.0 == 0 {
+            return f.write_str("none");
+        }
+        let mut between = "";
+        for (flag, name) in NAMED {
+            if self.contains(flag) {
+                write!(f, "{between}{name}")?;
+                between = " + ";
+            }
+        }
+        match self.0 & !0xf {
+            0 => Ok(()),
+            others => write!(f, "{between}{others:#x}"),
+        }
     }
 }
 

@@ -1,9 +1,10 @@
 //! x86_64.rs: kinds of relaxation, and the table of the relocation types.
 
-use crate::elf::RelocationKindInfo;
 use crate::refusal::Refusal;
 use crate::refusal::check;
+use crate::relocation::RelocationKindInfo;
 use crate::sys;
+use core::fmt;
 
 /// What becomes of the next relocation.
 #[derive(Debug, Clone, Copy, PartialEq, Eq, Hash)]
@@ -42,6 +43,14 @@ macro_rules! relaxation_kinds {
             pub const fn number(self) -> u8 {
                 match self {
                     $(Self::$variant { .. } => $number,)*
+                }
+            }
+
+            /// The kind's name without its instruction offset, as "RexMovIndirectToAbsolute".
+            #[must_use]
+            pub const fn name(self) -> &'static str {
+                match self {
+                    $(Self::$variant { .. } => stringify!($variant),)*
                 }
             }
 
@@ -140,6 +149,13 @@ impl RelaxationKind {
         *offset_in_section = moved.offset;
         *addend = moved.addend;
         Ok(())
+    }
+}
+
+/// As wild prints it: "NoOp", "RexMovIndirectToAbsolute(3)".
+impl fmt::Display for RelaxationKind {
+    fn fmt(&self, f: &mut fmt::Formatter<'_>) -> fmt::Result {
+        write!(f, "{self:?}")
     }
 }
 

@@ -76,6 +76,6 @@ abbrev pub lines : List ℕ → ℕ → ℕ → ℕ → List ℕ
 lines file zero n at = []
 lines file (suc k) n at = textOf file n (readAt file at) ++ lines file k (suc n) (placeAfter file (readAt file at))
 
--- "At most 65,536 bytes are read, and the file counts as lineEnd there"; there are no more lines than bytes
+-- "At most 65,536 bytes are read, and the file counts as ending there"; there are no more lines than bytes
 unfoldable pub text : List ℕ → List ℕ
 text file = lines (take 65536 file) (length (take 65536 file)) 1 0

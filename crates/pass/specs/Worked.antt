@@ -17,13 +17,13 @@ use Rattle.pass.specs.Walk.{Walk, walk, answers, parts, Outside}
 pub data Told : Type 0 where
   relaxes : ℕ → Told
   leaves : Told
-  skips : Told
+  passesBy : Told
   refused : ℕ → Told
 
 abbrev pub told : Answer Accepted → Told
 told (gives (took (relaxed k t m x))) = relaxes (shapeOf k .number)
 told (gives (took unrelaxed)) = leaves
-told (gives skipped) = skips
+told (gives skipped) = passesBy
 told (refuses n) = refused n
 
 -- a general-dynamic sequence with its call, a load through the GOT, and zeros
@@ -62,7 +62,7 @@ passOf l w s e = record { last = l; window = w; skip = s; ended = e }
 pub record WalkWorked : Type 0 where
   pub told-all :
       map told (answers start records)
-      ≡ relaxes 10 ∷ refused 22 ∷ skips ∷ relaxes 2 ∷ relaxes 18 ∷ refused 23 ∷ relaxes 9 ∷ leaves ∷ relaxes 18 ∷ refused 6 ∷ refused 2 ∷ []
+      ≡ relaxes 10 ∷ refused 22 ∷ passesBy ∷ relaxes 2 ∷ relaxes 18 ∷ refused 23 ∷ relaxes 9 ∷ leaves ∷ relaxes 18 ∷ refused 6 ∷ refused 2 ∷ []
   pub ends-at : walk start records .pass ≡ passOf 21 23 false false
   pub holds :
       walk start records .section

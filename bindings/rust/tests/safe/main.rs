@@ -1,9 +1,12 @@
-//! The safe layer against document 01: its worked records, refusals and numbers, and a walk of a pass.
+//! The safe layer against document 01: its worked records, refusals and numbers, and a walk of a pass. Declarations,
+//! numbers and texts against the header; the build script.
 
 #![forbid(unsafe_code)]
 
+mod build_script;
+mod header_texts;
+mod header_types;
 mod kinds;
-mod layout;
 mod numbers;
 mod pass;
 mod refusals;

@@ -130,30 +130,3 @@ fn plt_buffer_of_another_size() {
         assert_eq!(entry, vec![0xaa; length]);
     }
 }
-
-#[test]
-fn numbers_and_sentences() {
-    let sentences = [
-        (1, "section longer than 268,435,456"),
-        (2, "offset above the length"),
-        (3, "flag number above 15"),
-        (4, "output kind above 5"),
-        (5, "instruction offset not allowed"),
-        (6, "window not wholly inside"),
-        (7, "type not among the 39"),
-        (8, "PLT buffer not 16 bytes"),
-        (9, "PLT out of reach"),
-        (21, "pass ended"),
-        (22, "offset below the last"),
-        (23, "window begins before the last window's end"),
-        (24, "end asked while a skip is pending"),
-    ];
-    for (number, sentence) in sentences {
-        let refusal = Refusal::from_number(number).unwrap();
-        assert_eq!(refusal.number(), number);
-        let error: &dyn std::error::Error = &refusal;
-        assert_eq!(error.to_string(), sentence);
-    }
-    let count = (0..=255).filter_map(Refusal::from_number).count();
-    assert_eq!(count, sentences.len());
-}

@@ -49,8 +49,8 @@ impl Counts {
         }
     }
 
-    /// Prints a Markdown table of the cases by the book: by type and output kind, of how many each
-    /// peer agrees with the port, that is gives the same bytes.
+    /// Prints Markdown tables of the cases by the book: by type and output kind, of how many each peer
+    /// agrees with the port, that is gives the same bytes. One table would be too wide.
     pub fn table(&self) {
         let mut rows: BTreeMap<u32, [Cell; 5]> = BTreeMap::new();
         for (row, counts) in self.0.iter().filter(|(row, _)| !row.odd) {
@@ -58,12 +58,14 @@ impl Counts {
             let cell = &mut rows.entry(row.r_type).or_default()[usize::from(row.kind)];
             cell.entry(share).or_default().push(&row.peer);
         }
-        println!("| Type | Kind 0 | 1 | 2 | 3 | 4 |\n|---|---|---|---|---|---|");
-        for (r_type, cells) in rows {
-            println!(
-                "| {r_type} | {} |",
-                cells.map(|cell| text(&cell)).join(" | ")
-            );
+        for kinds in [0..2, 2..5] {
+            let heads: Vec<_> = kinds.clone().map(|kind| format!("Kind {kind}")).collect();
+            println!("\n| Type | {} |", heads.join(" | "));
+            println!("|---{}|", "|---".repeat(kinds.len()));
+            for (r_type, cells) in &rows {
+                let cells: Vec<_> = cells[kinds.clone()].iter().map(text).collect();
+                println!("| {r_type} | {} |", cells.join(" | "));
+            }
         }
     }
 }
