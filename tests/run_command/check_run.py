@@ -187,19 +187,22 @@ def check_writing(folder):
 
 def copied(folder):
     """A copy of what ./run needs, with a stand-in for rt, which does what the file `does` says, and its environment."""
-    for name in ("run", "crates.txt", "crates/relax_cases/stdin", "include/jitamoro.h", "tools/case"):
+    names = "run KIT crates.txt crates/relax_cases/stdin include/jitamoro.h tools/case tools/kit"
+    for name in names.split():
         (folder / name).parent.mkdir(parents=True, exist_ok=True)
         shutil.copy(ROOT / name, folder / name)
     rt = folder / "bin" / "rt"
     rt.parent.mkdir()
-    rt.write_text(f'#!/bin/bash\necho "$@" >>{folder}/calls\n. {folder}/does\n')
+    version = f'if [ "$1" = version ]; then cat {folder}/found; exit; fi\n'
+    rt.write_text(f'#!/bin/bash\n{version}echo "$@" >>{folder}/calls\n. {folder}/does\n')
+    shutil.copy(ROOT / "KIT", folder / "found")
     rt.chmod(0o755)
-    environment = {**os.environ, "PATH": f"{rt.parent}:{os.environ['PATH']}"}
+    environment = {**os.environ, "PATH": f"{rt.parent}:{os.environ['PATH']}", "WAIT": "0"}
     return environment | {"MADE_BY_GATE": environment.pop("JITAMORO_BIN_DIR")}
 
 
 def crates():
-    """The crates that relax_cases is made of."""
+    """How many crates relax_cases is made of."""
     rows = [line.split("#")[0].split(":") for line in (ROOT / "crates.txt").read_text().splitlines()]
     needs = {row[0].strip(): row[1].split() for row in rows if len(row) == 2}
     found, todo = [], ["relax_cases"]
@@ -227,20 +230,25 @@ def timeless(found):
     return *found[:2], re.sub(r"\(\d+ s\)", "(N s)", found[2])
 
 
-def check_proving(folder):
-    environment, command, does = copied(folder), folder / "run", folder / "does"
-    environment["WAIT"] = "0"
+PROGRESS = [f"proved crate 1 of {crates()}: laws (N s)", f"proved crate 3 of {crates()}: rules (N s)"]
+
+
+def check_proving(folder, environment):
+    command, does = folder / "run", folder / "does"
     lines = (ROOT / "crates" / "relax_cases" / "stdout").read_bytes()
     first = f"the first run proves {crates()} crates, which takes 2 to 4 minutes on 2 cores"
-    progress = [f"proved crate 1 of {crates()}: laws (N s)", f"proved crate 3 of {crates()}: rules (N s)"]
     does.write_text("echo 'rt: laws proved (unchanged since it was last proved)'\n")
     missing = "there is no program target/bin/relax_cases; if rt takes it for proved, remove target/ and run again"
     expect("a program that isn't there", run(command=command, env=environment), 1, b"", first, missing)
+    (folder / "found").write_text("another kit\n")
+    found = run(command=command, env=environment)
+    same("another kit", (found[:2], found[2][:23], found[2].count("\n")), ((1, b""), "kit: another kit, where", 3))
     does.write_text(PROVED + BUILT)
-    expect("the first run", timeless(run(command=command, env=environment)), 0, lines, first, *progress)
+    shutil.copy(ROOT / "KIT", folder / "found")
+    expect("the first run", timeless(run(command=command, env=environment)), 0, lines, first, *PROGRESS)
     does.write_text("echo 'rt: laws proved (unchanged since it was last proved)'\n")
     expect("the second", run(command=command, env=environment), 0, lines)
-    same("what rt was asked", (folder / "calls").read_text(), "check relax_cases\n" * 3)
+    same("what rt was asked", (folder / "calls").read_text(), "check relax_cases\n" * 4)
 
     slow = command.read_text()
     same("the wait in ./run", slow.count("read -r -t 20 line"), 1)
@@ -249,21 +257,22 @@ def check_proving(folder):
     found = timeless(run(command=command, env={**environment, "WAIT": "2.5"}))
     still = "run: still proving (N s)\n"
     same("a long wait", still in found[2], True)
-    expect("a long wait", (*found[:2], found[2].replace(still, "")), 0, lines, *progress)
+    expect("a long wait", (*found[:2], found[2].replace(still, "")), 0, lines, *PROGRESS)
     command.write_text(slow)
 
+
+def check_failures(folder, environment):
+    """A proof that fails, and words that can't be made."""
+    does = folder / "does"
     does.write_text("seq 100\necho 'rt: laws NOT PROVED'\nexit 1\n")
-    failed = run(command=command, env=environment)
+    found = run(command=folder / "run", env=environment)
     log = [*map(str, range(62, 101)), "rt: laws NOT PROVED", "run: the case program is not proved: see target/run.log"]
-    same("a proof that fails", failed, (1, b"", "\n".join(log) + "\n"))
+    same("a proof that fails", found, (1, b"", "\n".join(log) + "\n"))
     does.write_text(PROVED)
-    (folder / "tools" / "case").write_text("#!/bin/sh\necho no >&2\nexit 7\n")
-    failed = timeless(run("--words", command=command, env=environment))
-    said = [*progress, "no", "tools/case failed; it needs Python 3.9 or later"]
-    same("no words", failed, (1, b"", "".join(f"run: {line}\n" for line in said).replace("run: no\n", "no\n")))
-    seen["status 1"] += 2
-    check_interrupt(folder, environment)
-    check_no_rt(folder, environment)
+    (folder / "tools" / "case").write_text("#!/bin/sh\nexit 7\n")
+    found = timeless(run("--words", command=folder / "run", env=environment))
+    expect("no words", found, 1, b"", *PROGRESS, "tools/case failed; it needs Python 3.9 or later")
+    seen["status 1"] += 1
 
 
 def check_interrupt(folder, environment):
@@ -288,7 +297,9 @@ def check_no_rt(folder, environment):
     for name in "bash cat cp dirname head mkdir mktemp realpath rm sed tail tee wc".split():
         (few / name).symlink_to(shutil.which(name))
     found = run(command=folder / "run", env={**environment, "PATH": str(few)})
-    expect("no rt", found, 1, b"", "the Rattle kit's command rt isn't there")
+    same("no rt", (found[:2], found[2].count("\n")), ((1, b""), 1))
+    same("what is said of it", found[2][:59], "run: kit: the command rt of the Rattle kit isn't here, and ")
+    seen["status 1"] += 1
 
 
 def check_program(folder):
@@ -320,7 +331,9 @@ def main():
         check_use()
         check_writing(folder / "files")
         check_program(folder / "bin")
-        check_proving(folder / "copy")
+        environment = copied(folder / "copy")
+        for check in (check_proving, check_failures, check_interrupt, check_no_rt):
+            check(folder / "copy", environment)
         same("temporary files left", os.listdir(folder / "tmp"), [])
     report("./run", LEAST)
 
