@@ -123,7 +123,7 @@ def check_long_words():
         "TlsGdToLocalExec, mandatory, skip the next record, now R_X86_64_TPOFF32 at 12, addend -7; 01 02"
     )
     same("a record to skip", words(b"\1\2", 4, answer, **fields), [expected])
-    same("an instruction offset", "RexAddIndirectToAbsolute(6), now" in words(b"\1", 0, "3 6 6 0 23 0 0")[0], True)
+    same("an instruction offset", "RexAddIndirectToAbsolute(3), now" in words(b"\1", 0, "3 3 3 0 23 0 0")[0], True)
     same("mandatory", "mandatory" in words(b"\1", 0, "10 0 12 -7 23 1 0")[0], False)
     same("skip", "skip" in words(b"\1", 0, "10 0 12 -7 23 0 1")[0], False)
 
