@@ -178,7 +178,7 @@ enum jitamoro_r_type { JITAMORO_R_TYPES(JITAMORO_ENUMERATOR_) };
     X(JITAMORO_R_X86_64_IRELATIVE, 37, "R_X86_64_IRELATIVE")
 enum jitamoro_dynamic_r_type { JITAMORO_DYNAMIC_R_TYPES(JITAMORO_ENUMERATOR_) };
 
-/* The psABI's other types, which the library neither takes nor gives: named for messages. */
+/* The psABI's other types: nothing is chosen for them, and the lookup refuses them; named for messages. */
 #define JITAMORO_OTHER_R_TYPES(X)                              \
     X(JITAMORO_R_X86_64_GOTPCREL64, 28, "R_X86_64_GOTPCREL64") \
     X(JITAMORO_R_X86_64_GOTPLT64, 30, "R_X86_64_GOTPLT64")     \
@@ -343,7 +343,7 @@ bool jitamoro_next_modifier(uint8_t kind);
 
 /*
  * jitamoro_relax for a record held in place. Relaxed: `r_type`, `offset` and `addend` become those that fill the field
- * now. None, or refused: the record stays as it was. So it says what is to be filled in any case but a refusal.
+ * now. None, or refused: the record stays as it was. So, unless it is refused, it says what is to be filled.
  */
 static inline struct jitamoro_choice jitamoro_relax_record(struct jitamoro_record *record, uint8_t *section,
                                                            size_t len) {
@@ -373,13 +373,17 @@ struct jitamoro_step jitamoro_pass_step(struct jitamoro_pass *pass, uint32_t r_t
                                         size_t len, uint64_t offset, uint8_t flags, uint8_t output_kind,
                                         bool executable, uint64_t address, int64_t addend);
 
-/* jitamoro_pass_step for a record held in place, which changes as jitamoro_relax_record says; skipped, it stays too. */
+/* jitamoro_pass_step for a record held in place, which changes as jitamoro_relax_record says. Skipped: `r_type` becomes
+   JITAMORO_R_X86_64_NONE, since another record's field lies there now, and this one's must not be filled. */
 static inline struct jitamoro_step jitamoro_step_record(struct jitamoro_pass *pass, struct jitamoro_record *record,
                                                         uint8_t *section, size_t len) {
     struct jitamoro_step s =
         jitamoro_pass_step(pass, record->r_type, section, len, record->offset, record->flags, record->output_kind,
                            record->executable, record->address, record->addend);
     jitamoro_record_now_(record, &s.relaxed);
+    if (s.skipped) {
+        record->r_type = JITAMORO_R_X86_64_NONE;
+    }
     return s;
 }
 

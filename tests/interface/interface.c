@@ -145,7 +145,7 @@ static void records(void) {
     EXPECT_RECORD(23, 12, 0);
     record = load_at(12, -4);
     EXPECT(jitamoro_step_record(&pass, &record, section, sizeof section).skipped, true);
-    EXPECT_RECORD(42, 12, -4);
+    EXPECT_RECORD(JITAMORO_R_X86_64_NONE, 12, -4);
     record = load_at(3, -4);
     struct jitamoro_step s = jitamoro_step_record(&pass, &record, section, sizeof section);
     EXPECT(s.relaxed.choice.refusal, JITAMORO_REFUSED_ORDER);
@@ -153,7 +153,7 @@ static void records(void) {
     EXPECT_PASS(12, 12, 0, 0);
 }
 
-/* ---- Texts: each number has one, and those of a table differ */
+/* ---- Texts: each number has one, and those of the kinds differ */
 
 static void texts(void) {
     EXPECT(strcmp(jitamoro_refusal_text(6), "the bytes to rewrite don't lie wholly in the section"), 0);

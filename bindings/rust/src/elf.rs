@@ -74,7 +74,7 @@ relocation_types! {
         R_X86_64_TLSDESC = 36
         R_X86_64_IRELATIVE = 37;
 
-    "Neither taken nor given by the library: named for messages.":
+    "Nothing is chosen for it, and the lookup refuses it: named for messages.":
         R_X86_64_GOTPCREL64 = 28
         R_X86_64_GOTPLT64 = 30
         R_X86_64_RELATIVE64 = 38;

@@ -3,6 +3,7 @@ ghost use mathlib.Core.Path.{_≡_};
 ghost use Rattle.x86_64_kind.specs.Kinds.{skips, isSkip};
 ghost use Rattle.rules.specs.Types.{lookup};
 ghost use Rattle.rules.specs.Choose.{needsGotFallback};
+ghost use Rattle.rules.specs.Records.{FallbackWorked};
 ghost use Rattle.rules.specs.Rewrite.{claims};
 ghost use Rattle.x86_64_types.specs.Types.{foundOf};
 use x86_64_kind::RelaxationKind;
@@ -47,6 +48,7 @@ impl Relaxation {
     // Whether the new type's kind is Absolute.
     pub fn needs_got_fallback(self) -> bool
         ensures { λ r. ⌜ r ≡ needsGotFallback (self .«new_type») ⌝ }
+        ensures { λ _. ⌜ FallbackWorked ⌝ }
     {
         match self.rel_info() {
             RelocationFound::Is(info) => {

@@ -88,13 +88,14 @@ pub fn more(count: u64, agrees: bool) -> u64
     }
 }
 
-// The digits of a number in decimal: the first `len`.
+// The digits of a number in decimal: the first `len`. Those after them are left free, as the kit's decimal leaves them.
 pub struct Decimal {
     pub digits: [u8; 20],
     pub len: usize,
 }
 
-// Prints a line, `NAME COUNT`, and answers the digits that it printed.
+// Prints a line, `NAME COUNT`, and answers the count's digits. That the line is printed is no promise's: no contract speaks
+// of what is written.
 pub fn print_count(name: &[u8], count: u64) -> Decimal
     ensures { λ r. ⌜ Says r count ⌝ }
 {

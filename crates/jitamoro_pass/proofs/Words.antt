@@ -17,7 +17,7 @@ use Rattle.rules.specs.Rewrite.{claims, relaxing, afterRelaxing}
 use Rattle.relax.specs.Answers.{relaxedOf}
 use Rattle.answers.specs.Layout.{relaxedLayout}
 use Rattle.pass.specs.declared.Pass.{Pass}
-use Rattle.pass.specs.Pass.{Accepted, stepping, checked, clearing, passAfter, bytesAfter}
+use Rattle.pass.specs.Pass.{Accepted, stepping, checked, clearing, passAfter, bytesAfter, passed}
 use Rattle.pass.specs.declared.End.{End}
 use Rattle.pass.specs.declared.End.the-variants.{Granted, Refused}
 use Rattle.pass.specs.Answers.{stepOf, step, endOf}
@@ -28,7 +28,7 @@ use Rattle.plain.specs.declared.Plain.the-variants.{Settled}
 use Rattle.plain.specs.Plain.{isPlain, plainOf, chosenBy}
 use Rattle.plain.proofs.Numbers.{admitted, outcome, relaxes, settled}
 use Rattle.jitamoro_pass.specs.Layout.{written, wordsAfter, stepLayout, wordsEnded}
-use Rattle.jitamoro_pass.specs.Parts.{calm, at}
+use Rattle.jitamoro_pass.specs.Parts.{calm}
 
 pub as-flag : (b : Bool) → boolByte b ≡ flag b
 as-flag true = refl
@@ -54,7 +54,7 @@ module _ (p : Pass) (sec : List ℕ) (r : Relocation) (q : calm p (r .offset) �
 
   by : (c : Bool) (w : List ℕ)
       → (stepLayout (stepOf (taken c)) ≡ record { skipped = 0; relaxed = relaxedLayout (relaxedOf (gives (outcome sec r plain c (eqb (r .«r_type») 2) (isS (r .«output_kind»))))) })
-      × (wordsAfter w (record { pass = passAfter still r (taken c); step = stepOf (taken c) }) ≡ written w (at (r .offset) still))
+      × (wordsAfter w (record { pass = passAfter still r (taken c); step = stepOf (taken c) }) ≡ written w (passed r still))
       × (bytesAfter sec (taken c) ≡ sec)
   unfolding clearing passAfter bytesAfter afterRelaxing claims
   by true w = (refl, refl, refl)
@@ -62,7 +62,7 @@ module _ (p : Pass) (sec : List ℕ) (r : Relocation) (q : calm p (r .offset) �
 
   passed-by : (w : List ℕ)
       → (stepLayout (step p sec r .stepped .step) ≡ record { skipped = 0; relaxed = relaxedLayout (relaxedOf (relaxing linkLimit sec r)) })
-      × (wordsAfter w (step p sec r .stepped) ≡ written w (at (r .offset) p))
+      × (wordsAfter w (step p sec r .stepped) ≡ written w (passed r p))
       × (step p sec r .section ≡ sec)
   unfolding step stepping checked
   passed-by w = rw (facts .0, admitted sec r plain, facts .2, facts .1, relaxes sec r plain) (by (chosenBy r) w)
@@ -73,7 +73,7 @@ module _ (p : Pass) (sec : List ℕ) (r : Relocation) (a : RelaxedAnswer) (e : S
   known = settled _ _ a e
 
   pub settled-step : (record { skipped = 0; relaxed = a } ≡ stepLayout (step p sec r .stepped .step))
-      × ((written w (at (r .offset) p) ≡ wordsAfter w (step p sec r .stepped))
+      × ((written w (passed r p) ≡ wordsAfter w (step p sec r .stepped))
       × ((sec ≡ step p sec r .section) × SameMeaning sec))
   settled-step =
       let b = both (calm p (r .offset)) (isPlain sec r) (known .0) in

@@ -7,6 +7,3 @@ use Rattle.pass.specs.declared.Pass.{Pass}
 -- neither ended nor with a skip pending, and the offset doesn't fall
 abbrev pub calm : Pass → ℕ → Bool
 calm p off = not (p .ended) && not (p .skip) && leb (p .last) off
-
-abbrev pub at : ℕ → Pass → Pass
-at off p = record { last = off; window = p .window; skip = p .skip; ended = p .ended }

@@ -9,11 +9,11 @@ ghost use Rattle.rules.specs.Rewrite.{relaxing};
 ghost use Rattle.rules.specs.Meaning.{SameMeaning};
 ghost use Rattle.relax.specs.Answers.{relaxedOf};
 ghost use Rattle.answers.specs.Layout.{relaxedLayout};
-ghost use Rattle.pass.specs.Pass.{freshPass, ending};
+ghost use Rattle.pass.specs.Pass.{freshPass, ending, passed};
 ghost use Rattle.pass.specs.Answers.{step};
 ghost use Rattle.plain.specs.Plain.{isPlain, plainOf};
 ghost use Rattle.jitamoro_pass.specs.Layout.{passOf, written, wordsAfter, stepLayout, wordsEnded};
-ghost use Rattle.jitamoro_pass.specs.Parts.{calm, at};
+ghost use Rattle.jitamoro_pass.specs.Parts.{calm};
 use answers::RelaxedAnswer;
 use pass::End;
 use pass::Pass;
@@ -82,7 +82,7 @@ pub extern "C" fn jitamoro_pass_step(
     };
     let before = read(pass);
     match settle(before, section, rel) {
-        Plain::Settled(answer) => pass_by(pass, before, offset, answer),
+        Plain::Settled(answer) => pass_by(pass, before, rel, answer),
         Plain::Other => take(pass, section, rel),
     }
 }
@@ -106,12 +106,17 @@ fn is_calm(pass: Pass, offset: u64) -> bool
 }
 
 // A plain record: its window is empty, so that only the last offset changes.
-fn pass_by(words: &mut [u64; 4], before: Pass, offset: u64, relaxed: RelaxedAnswer) -> StepAnswer
+fn pass_by(
+    words: &mut [u64; 4],
+    before: Pass,
+    rel: Relocation,
+    relaxed: RelaxedAnswer,
+) -> StepAnswer
     ensures { λ r. ⌜ r ≡ record { skipped = 0; relaxed = relaxed } ⌝ }
-    ensures { λ _. ⌜ now (words .exit) ≡ written (now (words .entry)) (at offset before) ⌝ }
+    ensures { λ _. ⌜ now (words .exit) ≡ written (now (words .entry)) (passed rel before) ⌝ }
 {
     let mut after = before;
-    after.last = offset;
+    after.last = rel.offset;
     write(words, after);
     StepAnswer {
         skipped: 0,

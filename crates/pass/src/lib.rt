@@ -144,19 +144,19 @@ impl Pass {
         let window = relaxation.claim();
         let back = window.back;
         let size = window.size;
-        let last = self.window;
+        let last_end = self.window;
         let inside = window.is_inside(len, offset);
         if inside {
             if size == 0 {
-                return Verdict::Relax(last, relaxation);
+                return Verdict::Relax(last_end, relaxation);
             }
             let begin = offset - back;
-            if begin < last {
+            if begin < last_end {
                 return Verdict::Refuse(23);
             }
             return Verdict::Relax(begin + size, relaxation);
         }
-        Verdict::Relax(last, relaxation)
+        Verdict::Relax(last_end, relaxation)
     }
 
     // What relaxing answered; `window` is the window's end where a record was relaxed.

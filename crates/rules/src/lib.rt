@@ -9,8 +9,8 @@ ghost use Rattle.rules.specs.Instances.{MeaningWorked};
 ghost use Rattle.rules.specs.Runs.{Measured};
 ghost use Rattle.rules.specs.Starred.{StarredHold};
 
-// "A record has a type number, .. an offset, a flag number, .. an output kind, an executable yes/no, a symbol address and
-// a signed addend."
+// "A record has a type number .., an offset, a flag number .., an output kind, an executable yes/no, a symbol address .. and
+// a signed addend"
 pub struct Relocation {
     pub r_type: u32,
     pub offset: u64,

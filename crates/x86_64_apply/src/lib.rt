@@ -317,7 +317,7 @@ fn add_to_lea(shape: Shape, section_bytes: &mut [u8], offset: u64, addend: i64) 
 
 // Where the field lies then, and its addend.
 fn place(shape: Shape, offset: u64, addend: i64) -> Applied
-    requires { ⌜ (shape .window .back ≤ offset) × (offset ≤ 268435456) × (shape .field ≤ 18) ⌝ }
+    requires { ⌜ (shape .window .back ≤ offset) × (offset ≤ linkLimit .most) × (shape .field ≤ 18) ⌝ }
     ensures { λ r. ⌜ r ≡ Done (record { offset = begin (shape .window) offset + shape .field; addend = cond (shape .clears) (pos 0) addend }) ⌝ }
 {
     let window = shape.window;

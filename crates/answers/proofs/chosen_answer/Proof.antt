@@ -11,4 +11,4 @@ chosen-answer-spec =
     (λ c κs. search needs) (λ c κs. search needs) (λ c κs. search needs) (λ c κs. search needs) (λ c κs. search needs) (λ c κs. search needs)
     (λ c κs. search needs) (λ c. search needs) (λ c. search needs) (λ c κs. search needs) (λ c κs. search needs) (λ c. search needs)
     (λ c. search needs) (λ c. search needs)
-    (λ c. rw (c .wide2 .ensures .0, c .before .inst-offset .ensures, c .before .before .wide .ensures .0, c .before .before .before .number .ensures, c .before .before .before .before .flag-bytes .ensures .0, c .before .before .before .before .before .needs-got-fallback .ensures, c .before .before .before .before .before .before .is-skip .ensures, c .before .before .before .before .before .before .before .next-modifier .ensures, c .before .before .before .before .before .before .before .before .is-mandatory .ensures)))
+    (λ c. rw (c .wide2 .ensures .0, c .before .inst-offset .ensures, c .before .before .wide .ensures .0, c .before .before .before .number .ensures, c .before .before .before .before .flag-bytes .ensures .0, c .before .before .before .before .before .needs-got-fallback .ensures .0, c .before .before .before .before .before .before .is-skip .ensures, c .before .before .before .before .before .before .before .next-modifier .ensures, c .before .before .before .before .before .before .before .before .is-mandatory .ensures)))
