@@ -86,7 +86,7 @@ pub fn fill_section_padding(buf: &mut [u8], executable: bool)
     }
 }
 
-pub fn fill_nop_padding(buf: &mut [u8])
+fn fill_nop_padding(buf: &mut [u8])
     ensures { λ _. ⌜ now (buf .exit) ≡ padding true (length (now (buf .entry))) ⌝ }
 {
     fill(buf, 0xcc);
