@@ -13,11 +13,11 @@ use Rattle.x86_64_kind.specs.Kinds.{isEmpty}
 use Rattle.rules.specs.Answer.{Answer, gives, refuses, refusalOf, flag}
 use Rattle.rules.specs.declared.Relocation.{Relocation}
 use Rattle.rules.specs.Record.{linkLimit, isS}
-use Rattle.rules.specs.Rewrite.{claims, relaxing, afterRelaxing}
+use Rattle.rules.specs.Rewrite.{Relaxed, claims, relaxing, afterRelaxing}
 use Rattle.relax.specs.Answers.{relaxedOf}
 use Rattle.answers.specs.Layout.{relaxedLayout}
 use Rattle.pass.specs.declared.Pass.{Pass}
-use Rattle.pass.specs.Pass.{Accepted, stepping, checked, clearing, passAfter, bytesAfter, passed}
+use Rattle.pass.specs.Pass.{took, stepping, checked, clearing, passAfter, bytesAfter, passed}
 use Rattle.pass.specs.declared.End.{End}
 use Rattle.pass.specs.declared.End.the-variants.{Granted, Refused}
 use Rattle.pass.specs.Answers.{stepOf, step, endOf}
@@ -45,18 +45,26 @@ module _ (p : Pass) (sec : List ℕ) (r : Relocation) (q : calm p (r .offset) �
       let g = both (not (p .ended)) (not (p .skip)) (h .0) in
       (of-not (p .ended) (g .0), of-not (p .skip) (g .1), le-ltb (r .offset) (p .last) (leb-true (p .last) (r .offset) (h .1)))
 
-  -- the answer, the words and the section that a step leaves, by whether a kind is chosen
-  abbrev still : Pass
-  still = record { last = p .last; window = p .window; skip = false; ended = false }
+  -- a plain record's step is what relaxing gives
+  abbrev outcomeBy : Bool → Relaxed
+  outcomeBy c = outcome sec r plain c (eqb (r .«r_type») 2) (isS (r .«output_kind»))
 
-  abbrev taken : Bool → Answer Accepted
-  taken c = clearing still r (gives (outcome sec r plain c (eqb (r .«r_type») 2) (isS (r .«output_kind»))))
+  pub plain-step : stepping p sec r ≡ gives (took (outcomeBy (chosenBy r)))
+  unfolding stepping checked clearing claims
+  plain-step = rw (facts .0, admitted sec r plain, facts .2, facts .1, relaxes sec r plain) (clear _ (chosenBy r)) where
+    clear : (any : Pass) (c : Bool) → clearing any r (gives (outcomeBy c)) ≡ gives (took (outcomeBy c))
+    clear any true = refl
+    clear any false = refl
+
+  -- the answer, the words and the section that it leaves, by whether a kind is chosen
+  abbrev still : Pass
+  still = record { last = p .last; window = p .window; skip = false; ended = p .ended }
 
   by : (c : Bool) (w : List ℕ)
-      → (stepLayout (stepOf (taken c)) ≡ record { skipped = 0; relaxed = relaxedLayout (relaxedOf (gives (outcome sec r plain c (eqb (r .«r_type») 2) (isS (r .«output_kind»))))) })
-      × (wordsAfter w (record { pass = passAfter still r (taken c); step = stepOf (taken c) }) ≡ written w (passed r still))
-      × (bytesAfter sec (taken c) ≡ sec)
-  unfolding clearing passAfter bytesAfter afterRelaxing claims
+      → (stepLayout (stepOf (gives (took (outcomeBy c)))) ≡ record { skipped = 0; relaxed = relaxedLayout (relaxedOf (gives (outcomeBy c))) })
+      × (wordsAfter w (record { pass = passAfter still r (gives (took (outcomeBy c))); step = stepOf (gives (took (outcomeBy c))) }) ≡ written w (passed r still))
+      × (bytesAfter sec (gives (took (outcomeBy c))) ≡ sec)
+  unfolding passAfter bytesAfter afterRelaxing claims
   by true w = (refl, refl, refl)
   by false w = (refl, refl, refl)
 
@@ -64,12 +72,12 @@ module _ (p : Pass) (sec : List ℕ) (r : Relocation) (q : calm p (r .offset) �
       → (stepLayout (step p sec r .stepped .step) ≡ record { skipped = 0; relaxed = relaxedLayout (relaxedOf (relaxing linkLimit sec r)) })
       × (wordsAfter w (step p sec r .stepped) ≡ written w (passed r p))
       × (step p sec r .section ≡ sec)
-  unfolding step stepping checked
-  passed-by w = rw (facts .0, admitted sec r plain, facts .2, facts .1, relaxes sec r plain) (by (chosenBy r) w)
+  unfolding step
+  passed-by w = rw (plain-step, facts .1, relaxes sec r plain) (by (chosenBy r) w)
 
 -- what a caller learns of an answer that is settled
 module _ (p : Pass) (sec : List ℕ) (r : Relocation) (a : RelaxedAnswer) (e : Settled a ≡ plainOf (calm p (r .offset) && isPlain sec r) (relaxedLayout (relaxedOf (relaxing linkLimit sec r)))) (w : List ℕ) where
-  known : ((calm p (r .offset) && isPlain sec r) ≡ true) × (a ≡ relaxedLayout (relaxedOf (relaxing linkLimit sec r)))
+  pub known : ((calm p (r .offset) && isPlain sec r) ≡ true) × (a ≡ relaxedLayout (relaxedOf (relaxing linkLimit sec r)))
   known = settled _ _ a e
 
   pub settled-step : (record { skipped = 0; relaxed = a } ≡ stepLayout (step p sec r .stepped .step))

@@ -88,7 +88,7 @@ pub extern "C" fn jitamoro_pass_step(
 }
 
 // What relaxing answers for a plain record, if the pass is calm.
-fn settle(pass: Pass, section: &[u8], rel: Relocation) -> Plain
+pub fn settle(pass: Pass, section: &[u8], rel: Relocation) -> Plain
     ensures { λ r. ⌜ r ≡ plainOf (calm pass (rel .offset) && isPlain (now (section .entry)) rel) (relaxedLayout (relaxedOf (relaxing linkLimit (now (section .entry)) rel))) ⌝ }
 {
     let calm = is_calm(pass, rel.offset);
@@ -106,7 +106,7 @@ fn is_calm(pass: Pass, offset: u64) -> bool
 }
 
 // A plain record: its window is empty, so that only the last offset changes.
-fn pass_by(
+pub fn pass_by(
     words: &mut [u64; 4],
     before: Pass,
     rel: Relocation,
@@ -152,7 +152,7 @@ pub extern "C" fn jitamoro_pass_end(pass: &mut [u64; 4]) -> u8
     }
 }
 
-fn read(words: &[u64; 4]) -> Pass
+pub fn read(words: &[u64; 4]) -> Pass
     ensures { λ r. ⌜ r ≡ passOf (now (words .entry)) ⌝ }
 {
     Pass {
@@ -172,7 +172,7 @@ fn write(words: &mut [u64; 4], pass: Pass)
     words[3] = pass.ended as u64;
 }
 
-fn finish(words: &mut [u64; 4], stepped: Stepped) -> StepAnswer
+pub fn finish(words: &mut [u64; 4], stepped: Stepped) -> StepAnswer
     ensures { λ r. ⌜ r ≡ stepLayout (stepped .step) ⌝ }
     ensures { λ _. ⌜ now (words .exit) ≡ wordsAfter (now (words .entry)) stepped ⌝ }
 {

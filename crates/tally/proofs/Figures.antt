@@ -1,0 +1,108 @@
+-- What a step does to the figures: at each place its share, wrapping; to the first 21 together a record, or nothing under a refusal.
+-- Assumes nothing.
+use mathlib.Core.Path.{_≡_, refl, sym, ap, subst, _∙_}
+use mathlib.Core.Bool.{Bool, true, false, cond, false≢true}
+use mathlib.Core.List.{List, [], _∷_}
+use Prim.Native.Nat.{ℕ, zero, suc, _+_, _%_, _^_, _<_, _≤_}
+use native.Mathlib.Nat.{le-refl, le-of-suc-le-suc, not-suc-le-zero}
+use native.Mathlib.Omega.{arith}
+use lib.Dec.{eqb}
+use lib.ListN.{length, getD, set, take, length-set}
+use lib.Seq.{getD-set-same, getD-set-other, take-set-le}
+use borrow.Author.Tests.{eqb-true, eqb-false, ne-eqb}
+use Rattle.rules.specs.Answer.{flag}
+use Rattle.x86_64_kind.specs.declared.RelaxationKind.{RelaxationKind}
+use Rattle.x86_64_kind.specs.declared.RelaxationKind.the-variants as kind
+use Rattle.x86_64_kind.specs.Kinds.{shape, shapeOf}
+use Rattle.rules.specs.Rewrite.{claims}
+use Rattle.pass.specs.declared.Step.{Step}
+use Rattle.pass.specs.declared.Step.the-variants.{Nothing, Done, Skipped, Refused}
+use Rattle.tally.specs.Tally.{plus, tallied, sum, share, accepted}
+
+pub length-tallied : (t : List ℕ) (s : Step) → length (tallied t s) ≡ length t
+unfolding tallied
+length-tallied t (Done x m) = length-set (plus (shapeOf (x .kind) .number) 1 t) 21 _ ∙ length-set t (shapeOf (x .kind) .number) _
+length-tallied t Nothing = length-set t 19 _
+length-tallied t Skipped = length-set t 20 _
+length-tallied t (Refused n) = refl
+
+-- the kinds' numbers are those of the first figures
+low : (k : RelaxationKind) → shapeOf k .number < 19
+low kind.MovIndirectToLea = omega arith
+low kind.MovIndirectToAbsolute = omega arith
+low (kind.RexMovIndirectToAbsolute n) = omega arith
+low (kind.RexAddIndirectToAbsolute n) = by (eqb n 6) where
+  by : (b : Bool) → (cond b (shape 3 n 5 5 5 true) (shape 3 n 3 3 3 true)) .number < 19
+  by true = omega arith
+  by false = omega arith
+low (kind.RexAddIndirectToLea n) = omega arith
+low (kind.RexSubIndirectToAbsolute n) = omega arith
+low (kind.RexCmpIndirectToAbsolute n) = omega arith
+low kind.CallIndirectToRelative = omega arith
+low kind.JmpIndirectToRelative = omega arith
+low kind.NoOp = omega arith
+low kind.TlsGdToLocalExec = omega arith
+low kind.TlsGdToLocalExecLarge = omega arith
+low kind.TlsLdToLocalExec = omega arith
+low kind.TlsLdToLocalExecNoPlt = omega arith
+low kind.TlsLdToLocalExec64 = omega arith
+low kind.TlsGdToInitialExec = omega arith
+low (kind.TlsDescToLocalExec n) = omega arith
+low kind.TlsDescToInitialExec = omega arith
+low kind.SkipTlsDescCall = omega arith
+
+pub among-figures : (k : RelaxationKind) (n : ℕ) → n ≡ shapeOf k .number → n < 22
+among-figures k n e = let h = low k in omega (arith, h, e)
+
+-- ---- each figure
+
+module _ (t : List ℕ) (i : ℕ) (l : i < length t) (h : getD t i 0 < 2 ^ 64) where
+  getD-plus : (j n : ℕ) → getD (plus j n t) i 0 ≡ (getD t i 0 + cond (eqb i j) n 0) % 2 ^ 64
+  getD-plus j n = by (eqb i j) refl where
+    by : (b : Bool) → eqb i j ≡ b → getD (plus j n t) i 0 ≡ (getD t i 0 + cond b n 0) % 2 ^ 64
+    by true e = rw (← eqb-true i j e) (getD-set-same t i _ 0 l)
+    by false e = getD-set-other t j i _ 0 (eqb-false i j e) ∙ (omega arith)
+
+pub below : (y x : ℕ) → y ≡ x % 2 ^ 64 → y < 2 ^ 64
+below y x e = omega arith
+
+-- a kind's place isn't that of the bytes
+apart : (x u v n : ℕ) (b k : Bool) → (b ≡ true → k ≡ false) → u ≡ (x + cond k 1 0) % 2 ^ 64 → v ≡ (u + cond b n 0) % 2 ^ 64 → v ≡ (x + cond b n (flag k)) % 2 ^ 64
+apart x u v n true true a e f = absurd (false≢true (sym (a refl)))
+apart x u v n true false a e f = omega arith
+apart x u v n false true a e f = omega arith
+apart x u v n false false a e f = omega arith
+
+pub getD-tallied : (t : List ℕ) (s : Step) (i : ℕ) → i < length t → getD t i 0 < 2 ^ 64 → getD (tallied t s) i 0 ≡ (getD t i 0 + share s i) % 2 ^ 64
+unfolding tallied share
+getD-tallied t (Done x m) i l h =
+    let k = shapeOf (x .kind) .number in
+    let e = getD-plus t i l h k 1 in
+    apart _ _ _ (claims (x .kind) (x .«new_type») .size) (eqb i 21) (eqb i k)
+    (λ b. ne-eqb i k (λ q. let z = eqb-true i 21 b in let y = low (x .kind) in omega (arith, z, y, q)))
+    e (getD-plus (plus k 1 t) i (subst (λ (n : ℕ). i < n) (sym (length-set t k _)) l) (below _ _ e) 21 _)
+getD-tallied t Nothing i l h = getD-plus t i l h 19 1
+getD-tallied t Skipped i l h = getD-plus t i l h 20 1
+getD-tallied t (Refused n) i l h = omega arith
+
+-- ---- the first 21 together
+
+sum-plus : (n j : ℕ) (t : List ℕ) → j < n → n ≤ length t → sum (take n (plus j 1 t)) % 2 ^ 64 ≡ (sum (take n t) + 1) % 2 ^ 64
+sum-plus zero j t h l = absurd (not-suc-le-zero h)
+sum-plus (suc n) j [] h l = absurd (not-suc-le-zero l)
+sum-plus (suc n) zero (x ∷ xs) h l = here x (sum (take n xs)) where
+  here : (x u : ℕ) → ((x + 1) % 2 ^ 64 + u) % 2 ^ 64 ≡ (x + u + 1) % 2 ^ 64
+  here x u = omega arith
+sum-plus (suc n) (suc j) (x ∷ xs) h l = there x _ (sum (take n xs)) (sum-plus n j xs (le-of-suc-le-suc h) (le-of-suc-le-suc l)) where
+  there : (x u v : ℕ) → u % 2 ^ 64 ≡ (v + 1) % 2 ^ 64 → (x + u) % 2 ^ 64 ≡ (x + v + 1) % 2 ^ 64
+  there x u v e = omega arith
+
+pub sum-tallied : (t : List ℕ) (s : Step) → 21 ≤ length t → sum (take 21 (tallied t s)) % 2 ^ 64 ≡ (sum (take 21 t) + accepted s) % 2 ^ 64
+unfolding tallied
+sum-tallied t (Done x m) l =
+    let k = shapeOf (x .kind) .number in
+    let y = low (x .kind) in
+    rw (take-set-le 21 (plus k 1 t) 21 _ (le-refl 21)) (sum-plus 21 k t (omega (arith, y)) l)
+sum-tallied t Nothing l = sum-plus 21 19 t (omega arith) l
+sum-tallied t Skipped l = sum-plus 21 20 t (omega arith) l
+sum-tallied t (Refused n) l = omega arith

@@ -1,0 +1,21 @@
+-- `count` meets its contract, answer by answer.
+-- Assumes nothing.
+use borrow.Author.Needs.{needs}
+use Rattle.tally.specs.Tally.{tallied}
+use Rattle.tally.proofs.Figures.{among-figures}
+use Rattle.tally.proofs.count.Statement.{statement}
+use Rattle.tally.proofs.count.Tie as tie
+
+pub count-spec : {M : Type 1} → statement M
+unfolding tallied
+count-spec =
+    tie.close
+    (tie.spec
+    (λ c. search needs) (λ c κs. search needs) (λ c. search needs) (λ c κs. search needs) (λ c κs. search needs) (λ c. search needs)
+    (λ c κs. among-figures (c .before .before .before .before .step .given .0 .0 .kind) _ (c .number .ensures)) (λ c κs. search needs) (λ c. search needs) (λ c κs. search needs) (λ c. search needs)
+    (λ c. rw (c .before .before .enum-told .given .1) (c .add .ensures))
+    (λ c. let n = c .before .before .before in
+    let known = n .before .before .before .before .step .given .1 in
+    rw (known, ← n .before .before .claim .ensures, ← n .number .ensures, ← c .before .before .add2 .ensures) (c .add3 .ensures))
+    (λ c. rw (c .before .before .enum-told2 .given .1) (c .add4 .ensures))
+    (λ c. rw (c .enum-told3 .given .1)))
