@@ -1,7 +1,7 @@
--- A plain record's step is counted as the pass's own.
+-- A plain record is counted as its step: NoOp where its answer's head isn't 0, none where it is.
 -- Assumes nothing.
 use mathlib.Core.Path.{_≡_, refl, _∙_}
-use mathlib.Core.Bool.{Bool, true, false, cond, _||_, _&&_}
+use mathlib.Core.Bool.{Bool, true, false, not, cond, _||_, _&&_}
 use mathlib.Core.List.{List}
 use Prim.Native.Nat.{ℕ}
 use lib.Dec.{eqb}
@@ -9,7 +9,7 @@ use Rattle.laws.proofs.Bools.{both}
 use Rattle.rules.specs.Answer.{gives}
 use Rattle.rules.specs.declared.Relocation.{Relocation}
 use Rattle.rules.specs.Record.{linkLimit, isS}
-use Rattle.rules.specs.Rewrite.{relaxing}
+use Rattle.rules.specs.Rewrite.{claims, relaxing}
 use Rattle.relax.specs.Answers.{relaxedOf}
 use Rattle.answers.specs.declared.RelaxedAnswer.{RelaxedAnswer}
 use Rattle.answers.specs.Layout.{relaxedLayout}
@@ -21,21 +21,20 @@ use Rattle.plain.specs.Plain.{isPlain, plainOf, chosenBy}
 use Rattle.plain.proofs.Numbers.{outcome, settles}
 use Rattle.jitamoro_pass.specs.Parts.{calm}
 use Rattle.jitamoro_pass.proofs.Words.{plain-step, known}
-use Rattle.tally.specs.Tally.{tallied}
-use Rattle.jitamoro_tally.specs.Parts.{plainStep}
+use Rattle.tally.specs.Tally.{noneAt, counted, tallied}
 
 module _ (p : Pass) (sec : List ℕ) (r : Relocation) (a : RelaxedAnswer) (e : Settled a ≡ plainOf (calm p (r .offset) && isPlain sec r) (relaxedLayout (relaxedOf (relaxing linkLimit sec r)))) (t : List ℕ) where
   by : (plain : isPlain sec r ≡ true) (c m : Bool)
-      → tallied t (plainStep (record { head = cond c (cond m 0x100090100 0x90100) 0; «new_type» = cond c (cond (eqb (r .«r_type») 2) 4 2) 0 }))
+      → counted (cond (not (eqb (cond c (cond m 0x100090100 0x90100) 0) 0)) 9 noneAt) 0 t
       ≡ tallied t (stepOf (gives (took (outcome sec r plain c (eqb (r .«r_type») 2) (isS (r .«output_kind»))))))
-  unfolding tallied
+  unfolding tallied claims
   by plain true true = refl
   by plain true false = refl
   by plain false m = refl
 
-  pub counted : tallied t (plainStep (a .choice)) ≡ tallied t (step p sec r .stepped .step)
+  pub counted-plain : counted (cond (not (eqb (a .choice .head) 0)) 9 noneAt) 0 t ≡ tallied t (step p sec r .stepped .step)
   unfolding step
-  counted =
+  counted-plain =
       let k = known p sec r a e t in
       let b = both (calm p (r .offset)) (isPlain sec r) (k .0) in
       rw (k .1 ∙ settles sec r (b .1) .0, plain-step p sec r (b .0) (b .1)) (by (b .1) (chosenBy r) (eqb (r .«r_type») 2 || isS (r .«output_kind»)))

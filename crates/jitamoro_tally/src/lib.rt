@@ -6,18 +6,12 @@ ghost use Rattle.rules.specs.Meaning.{SameMeaning};
 ghost use Rattle.pass.specs.Answers.{step};
 ghost use Rattle.jitamoro_pass.specs.Layout.{passOf, wordsAfter, stepLayout};
 ghost use Rattle.tally.specs.Tally.{freshTally, tallied};
-ghost use Rattle.jitamoro_tally.specs.Parts.{plainStep};
-use answers::ChoiceAnswer;
-use elf_x86_64_relaxation::Relaxation;
 use jitamoro_pass::StepAnswer;
 use pass::Pass;
-use pass::Step;
 use pass::Stepped;
 use plain::Plain;
 use rules::Relocation;
 use tally::Tally;
-use x86_64_apply::Moved;
-use x86_64_kind::RelaxationKind;
 
 // The tally of a pass before its first record.
 #[no_mangle]
@@ -60,31 +54,11 @@ pub extern "C" fn jitamoro_tally_step(
     match jitamoro_pass::settle(before, section, rel) {
         Plain::Settled(answer) => {
             let choice = answer.choice;
-            tally::count(tally, plain_step(choice));
+            tally::count_no_op(tally, choice.head != 0);
             jitamoro_pass::pass_by(pass, before, rel, answer)
         }
         Plain::Other => take(pass, tally, section, rel),
     }
-}
-
-// A plain record's step, as far as it is counted: none, or NoOp.
-fn plain_step(choice: ChoiceAnswer) -> Step
-    ensures { λ r. ⌜ r ≡ plainStep choice ⌝ }
-{
-    if choice.head == 0 {
-        return Step::Nothing;
-    }
-    Step::Done(
-        Relaxation {
-            kind: RelaxationKind::NoOp,
-            new_type: choice.new_type,
-            mandatory: false,
-        },
-        Moved {
-            offset: 0,
-            addend: 0,
-        },
-    )
 }
 
 // Any record.

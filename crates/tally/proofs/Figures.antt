@@ -14,16 +14,18 @@ use Rattle.rules.specs.Answer.{flag}
 use Rattle.x86_64_kind.specs.declared.RelaxationKind.{RelaxationKind}
 use Rattle.x86_64_kind.specs.declared.RelaxationKind.the-variants as kind
 use Rattle.x86_64_kind.specs.Kinds.{shape, shapeOf}
-use Rattle.rules.specs.Rewrite.{claims}
 use Rattle.pass.specs.declared.Step.{Step}
 use Rattle.pass.specs.declared.Step.the-variants.{Nothing, Done, Skipped, Refused}
-use Rattle.tally.specs.Tally.{plus, tallied, sum, share, accepted}
+use Rattle.tally.specs.Tally.{plus, counted, tallied, sum, share, accepted}
+
+length-counted : (i n : ℕ) (t : List ℕ) → length (counted i n t) ≡ length t
+length-counted i n t = length-set (plus i 1 t) 21 _ ∙ length-set t i _
 
 pub length-tallied : (t : List ℕ) (s : Step) → length (tallied t s) ≡ length t
 unfolding tallied
-length-tallied t (Done x m) = length-set (plus (shapeOf (x .kind) .number) 1 t) 21 _ ∙ length-set t (shapeOf (x .kind) .number) _
-length-tallied t Nothing = length-set t 19 _
-length-tallied t Skipped = length-set t 20 _
+length-tallied t (Done x m) = length-counted (shapeOf (x .kind) .number) _ t
+length-tallied t Nothing = length-counted 19 0 t
+length-tallied t Skipped = length-counted 20 0 t
 length-tallied t (Refused n) = refl
 
 -- the kinds' numbers are those of the first figures
@@ -51,8 +53,8 @@ low (kind.TlsDescToLocalExec n) = omega arith
 low kind.TlsDescToInitialExec = omega arith
 low kind.SkipTlsDescCall = omega arith
 
-pub among-figures : (k : RelaxationKind) (n : ℕ) → n ≡ shapeOf k .number → n < 22
-among-figures k n e = let h = low k in omega (arith, h, e)
+pub among-records : (k : RelaxationKind) (n : ℕ) → n ≡ shapeOf k .number → n < 21
+among-records k n e = let h = low k in omega (arith, h, e)
 
 -- ---- each figure
 
@@ -66,23 +68,35 @@ module _ (t : List ℕ) (i : ℕ) (l : i < length t) (h : getD t i 0 < 2 ^ 64) w
 pub below : (y x : ℕ) → y ≡ x % 2 ^ 64 → y < 2 ^ 64
 below y x e = omega arith
 
--- a kind's place isn't that of the bytes
+-- a record's place isn't that of the bytes
 apart : (x u v n : ℕ) (b k : Bool) → (b ≡ true → k ≡ false) → u ≡ (x + cond k 1 0) % 2 ^ 64 → v ≡ (u + cond b n 0) % 2 ^ 64 → v ≡ (x + cond b n (flag k)) % 2 ^ 64
 apart x u v n true true a e f = absurd (false≢true (sym (a refl)))
 apart x u v n true false a e f = omega arith
 apart x u v n false true a e f = omega arith
 apart x u v n false false a e f = omega arith
 
+elsewhere : (i k : ℕ) → k < 21 → eqb i 21 ≡ true → eqb i k ≡ false
+elsewhere i k low b = ne-eqb i k (λ q. let z = eqb-true i 21 b in omega (arith, z, low, q))
+
+getD-counted : (t : List ℕ) (i : ℕ) → i < length t → getD t i 0 < 2 ^ 64 → (k n : ℕ) → k < 21
+    → getD (counted k n t) i 0 ≡ (getD t i 0 + cond (eqb i 21) n (flag (eqb i k))) % 2 ^ 64
+getD-counted t i l h k n low =
+    let e = getD-plus t i l h k 1 in
+    apart _ _ _ n (eqb i 21) (eqb i k) (elsewhere i k low) e
+    (getD-plus (plus k 1 t) i (subst (λ (n : ℕ). i < n) (sym (length-set t k _)) l) (below _ _ e) 21 n)
+
+-- a record with no window
+no-bytes : (i k : ℕ) → k < 21 → cond (eqb i 21) 0 (flag (eqb i k)) ≡ flag (eqb i k)
+no-bytes i k low = by (eqb i 21) (elsewhere i k low) where
+  by : (b : Bool) → (b ≡ true → eqb i k ≡ false) → cond b 0 (flag (eqb i k)) ≡ flag (eqb i k)
+  by true e = rw (e refl)
+  by false e = refl
+
 pub getD-tallied : (t : List ℕ) (s : Step) (i : ℕ) → i < length t → getD t i 0 < 2 ^ 64 → getD (tallied t s) i 0 ≡ (getD t i 0 + share s i) % 2 ^ 64
 unfolding tallied share
-getD-tallied t (Done x m) i l h =
-    let k = shapeOf (x .kind) .number in
-    let e = getD-plus t i l h k 1 in
-    apart _ _ _ (claims (x .kind) (x .«new_type») .size) (eqb i 21) (eqb i k)
-    (λ b. ne-eqb i k (λ q. let z = eqb-true i 21 b in let y = low (x .kind) in omega (arith, z, y, q)))
-    e (getD-plus (plus k 1 t) i (subst (λ (n : ℕ). i < n) (sym (length-set t k _)) l) (below _ _ e) 21 _)
-getD-tallied t Nothing i l h = getD-plus t i l h 19 1
-getD-tallied t Skipped i l h = getD-plus t i l h 20 1
+getD-tallied t (Done x m) i l h = getD-counted t i l h (shapeOf (x .kind) .number) _ (among-records (x .kind) _ refl)
+getD-tallied t Nothing i l h = rw (← no-bytes i 19 (omega arith)) (getD-counted t i l h 19 0 (omega arith))
+getD-tallied t Skipped i l h = rw (← no-bytes i 20 (omega arith)) (getD-counted t i l h 20 0 (omega arith))
 getD-tallied t (Refused n) i l h = omega arith
 
 -- ---- the first 21 together
@@ -97,12 +111,12 @@ sum-plus (suc n) (suc j) (x ∷ xs) h l = there x _ (sum (take n xs)) (sum-plus 
   there : (x u v : ℕ) → u % 2 ^ 64 ≡ (v + 1) % 2 ^ 64 → (x + u) % 2 ^ 64 ≡ (x + v + 1) % 2 ^ 64
   there x u v e = omega arith
 
+sum-counted : (k n : ℕ) (t : List ℕ) → k < 21 → 21 ≤ length t → sum (take 21 (counted k n t)) % 2 ^ 64 ≡ (sum (take 21 t) + 1) % 2 ^ 64
+sum-counted k n t low l = rw (take-set-le 21 (plus k 1 t) 21 _ (le-refl 21)) (sum-plus 21 k t low l)
+
 pub sum-tallied : (t : List ℕ) (s : Step) → 21 ≤ length t → sum (take 21 (tallied t s)) % 2 ^ 64 ≡ (sum (take 21 t) + accepted s) % 2 ^ 64
 unfolding tallied
-sum-tallied t (Done x m) l =
-    let k = shapeOf (x .kind) .number in
-    let y = low (x .kind) in
-    rw (take-set-le 21 (plus k 1 t) 21 _ (le-refl 21)) (sum-plus 21 k t (omega (arith, y)) l)
-sum-tallied t Nothing l = sum-plus 21 19 t (omega arith) l
-sum-tallied t Skipped l = sum-plus 21 20 t (omega arith) l
+sum-tallied t (Done x m) l = sum-counted (shapeOf (x .kind) .number) _ t (among-records (x .kind) _ refl) l
+sum-tallied t Nothing l = sum-counted 19 0 t (omega arith) l
+sum-tallied t Skipped l = sum-counted 20 0 t (omega arith) l
 sum-tallied t (Refused n) l = omega arith

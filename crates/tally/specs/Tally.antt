@@ -33,11 +33,15 @@ freshTally = replicate 22 0
 abbrev pub plus : ℕ → ℕ → List ℕ → List ℕ
 plus i n t = set t i ((getD t i 0 + n) % 2 ^ 64)
 
--- the figures after a step: a record more of its kind, with its window's bytes, of none or of skipped; "A refused step adds nothing"
+-- a record more at its place, with its window's bytes
+abbrev pub counted : ℕ → ℕ → List ℕ → List ℕ
+counted i n t = plus bytesAt n (plus i 1 t)
+
+-- the figures after a step: a record more of its kind, of none or of skipped; "A refused step adds nothing"
 unfoldable pub tallied : List ℕ → Step → List ℕ
-tallied t (Done x m) = plus bytesAt (claims (x .kind) (x .«new_type») .size) (plus (shapeOf (x .kind) .number) 1 t)
-tallied t Nothing = plus noneAt 1 t
-tallied t Skipped = plus skippedAt 1 t
+tallied t (Done x m) = counted (shapeOf (x .kind) .number) (claims (x .kind) (x .«new_type») .size) t
+tallied t Nothing = counted noneAt 0 t
+tallied t Skipped = counted skippedAt 0 t
 tallied t (Refused n) = t
 
 -- ---- a list of steps

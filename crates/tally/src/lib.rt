@@ -1,11 +1,14 @@
 // Document 02, card 1: the tally that is kept with a pass. Its figures are lent, so that a step copies none of them.
 ghost use mathlib.Core.Path.{_≡_};
+ghost use mathlib.Core.Bool.{cond};
 ghost use Prim.Native.Nat.{_<_};
-ghost use Rattle.tally.specs.Tally.{freshTally, plus, tallied};
+ghost use Rattle.tally.specs.Tally.{noneAt, freshTally, counted, tallied};
 ghost use Rattle.tally.specs.Walk.{Tallies};
 use pass::Step;
 
-// The places of the figures behind those of the kinds, 0 to 18.
+// Places of the figures: those of the kinds are 0 to 18.
+const NO_OP: usize = 9;
+
 const NONE: usize = 19;
 
 const SKIPPED: usize = 20;
@@ -32,21 +35,36 @@ pub fn count(figures: &mut [u64; 22], step: Step)
     ensures { λ _. ⌜ now (figures .exit) ≡ tallied (now (figures .entry)) step ⌝ }
 {
     match step {
-        Step::Nothing => add(figures, NONE, 1),
+        Step::Nothing => add(figures, NONE, 0),
         Step::Done(relaxation, _) => {
             let kind = relaxation.kind;
             let window = relaxation.claim();
-            add(figures, kind.number() as usize, 1);
-            add(figures, BYTES, window.size);
+            add(figures, kind.number() as usize, window.size);
         }
-        Step::Skipped => add(figures, SKIPPED, 1),
+        Step::Skipped => add(figures, SKIPPED, 0),
         Step::Refused(_) => {}
     }
 }
 
-fn add(figures: &mut [u64; 22], place: usize, n: u64)
-    requires { ⌜ place < 22 ⌝ }
-    ensures { λ _. ⌜ now (figures .exit) ≡ plus place n (now (figures .entry)) ⌝ }
+// Counts a record that became NoOp or none, with no branch.
+pub fn count_no_op(figures: &mut [u64; 22], chosen: bool)
+    ensures { λ _. ⌜ now (figures .exit) ≡ counted (cond chosen 9 noneAt) 0 (now (figures .entry)) ⌝ }
 {
-    figures[place] = std::num::wrapping_add_u64(figures[place], n);
+    add(figures, no_op_or_none(chosen), 0);
+}
+
+fn no_op_or_none(chosen: bool) -> usize
+    ensures { λ r. ⌜ r ≡ cond chosen 9 noneAt ⌝ }
+    ensures { λ r. ⌜ r < 21 ⌝ }
+{
+    if chosen { NO_OP } else { NONE }
+}
+
+// A record more at a place, and the bytes of its window.
+fn add(figures: &mut [u64; 22], place: usize, bytes: u64)
+    requires { ⌜ place < 21 ⌝ }
+    ensures { λ _. ⌜ now (figures .exit) ≡ counted place bytes (now (figures .entry)) ⌝ }
+{
+    figures[place] = std::num::wrapping_add_u64(figures[place], 1);
+    figures[BYTES] = std::num::wrapping_add_u64(figures[BYTES], bytes);
 }

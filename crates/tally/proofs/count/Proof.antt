@@ -2,7 +2,7 @@
 -- Assumes nothing.
 use borrow.Author.Needs.{needs}
 use Rattle.tally.specs.Tally.{tallied}
-use Rattle.tally.proofs.Figures.{among-figures}
+use Rattle.tally.proofs.Figures.{among-records}
 use Rattle.tally.proofs.count.Statement.{statement}
 use Rattle.tally.proofs.count.Tie as tie
 
@@ -12,10 +12,9 @@ count-spec =
     tie.close
     (tie.spec
     (λ c. search needs) (λ c κs. search needs) (λ c. search needs) (λ c κs. search needs) (λ c κs. search needs) (λ c. search needs)
-    (λ c κs. among-figures (c .before .before .before .before .step .given .0 .0 .kind) _ (c .number .ensures)) (λ c κs. search needs) (λ c. search needs) (λ c κs. search needs) (λ c. search needs)
+    (λ c κs. among-records (c .before .before .before .before .step .given .0 .0 .kind) _ (c .number .ensures)) (λ c. search needs) (λ c κs. search needs) (λ c. search needs)
     (λ c. rw (c .before .before .enum-told .given .1) (c .add .ensures))
-    (λ c. let n = c .before .before .before in
-    let known = n .before .before .before .before .step .given .1 in
-    rw (known, ← n .before .before .claim .ensures, ← n .number .ensures, ← c .before .before .add2 .ensures) (c .add3 .ensures))
-    (λ c. rw (c .before .before .enum-told2 .given .1) (c .add4 .ensures))
+    (λ c. let n = c .before in
+    rw (n .before .before .before .before .step .given .1, ← n .before .before .claim .ensures, ← n .number .ensures) (c .add2 .ensures))
+    (λ c. rw (c .before .before .enum-told2 .given .1) (c .add3 .ensures))
     (λ c. rw (c .enum-told3 .given .1)))
