@@ -1,2 +1,3 @@
 pub mod Figures
 pub mod Walk
+pub mod Worked

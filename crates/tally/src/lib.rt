@@ -4,6 +4,7 @@ ghost use mathlib.Core.Bool.{cond};
 ghost use Prim.Native.Nat.{_<_};
 ghost use Rattle.tally.specs.Tally.{noneAt, freshTally, counted, tallied};
 ghost use Rattle.tally.specs.Walk.{Tallies};
+ghost use Rattle.tally.specs.Worked.{TallyWorked};
 use pass::Step;
 
 // Places of the figures: those of the kinds are 0 to 18.
@@ -21,10 +22,12 @@ pub struct Tally {
 }
 
 impl Tally {
-    // The tally of a pass before its first record. The contract also says what holds of every walk with a tally.
+    // The tally of a pass before its first record. The contract also says what holds of every walk with a tally, with a
+    // worked one.
     pub fn fresh() -> Tally
         ensures { λ r. ⌜ r .figures ≡ freshTally ⌝ }
         ensures { λ _. ⌜ Tallies ⌝ }
+        ensures { λ _. ⌜ TallyWorked ⌝ }
     {
         Tally { figures: [0; 22] }
     }
