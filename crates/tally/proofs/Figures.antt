@@ -18,16 +18,6 @@ use Rattle.pass.specs.declared.Step.{Step}
 use Rattle.pass.specs.declared.Step.the-variants.{Nothing, Done, Skipped, Refused}
 use Rattle.tally.specs.Tally.{plus, counted, tallied, sum, share, accepted}
 
-length-counted : (i n : ℕ) (t : List ℕ) → length (counted i n t) ≡ length t
-length-counted i n t = length-set (plus i 1 t) 21 _ ∙ length-set t i _
-
-pub length-tallied : (t : List ℕ) (s : Step) → length (tallied t s) ≡ length t
-unfolding tallied
-length-tallied t (Done x m) = length-counted (shapeOf (x .kind) .number) _ t
-length-tallied t Nothing = length-counted 19 0 t
-length-tallied t Skipped = length-counted 20 0 t
-length-tallied t (Refused n) = refl
-
 -- the kinds' numbers are those of the first figures
 low : (k : RelaxationKind) → shapeOf k .number < 19
 low kind.MovIndirectToLea = omega arith
@@ -120,3 +110,15 @@ sum-tallied t (Done x m) l = sum-counted (shapeOf (x .kind) .number) _ t (among-
 sum-tallied t Nothing l = sum-counted 19 0 t (omega arith) l
 sum-tallied t Skipped l = sum-counted 20 0 t (omega arith) l
 sum-tallied t (Refused n) l = omega arith
+
+-- ---- their count stays
+
+length-counted : (i n : ℕ) (t : List ℕ) → length (counted i n t) ≡ length t
+length-counted i n t = length-set (plus i 1 t) 21 _ ∙ length-set t i _
+
+pub length-tallied : (t : List ℕ) (s : Step) → length (tallied t s) ≡ length t
+unfolding tallied
+length-tallied t (Done x m) = length-counted _ _ t
+length-tallied t Nothing = length-counted _ _ t
+length-tallied t Skipped = length-counted _ _ t
+length-tallied t (Refused n) = refl

@@ -14,11 +14,6 @@ use Rattle.tally.specs.Tally.{freshTally, share, tallied, sum, figure, a
 use Rattle.tally.specs.Walk.{Tallied, fresh, takes, ends, Act, endedWalk, acted, after, steps, Tallies}
 use Rattle.tally.proofs.Figures.{length-tallied, below, getD-tallied, sum-tallied}
 
-size : (t : Tallied) (acts : List Act) → length (after t acts .figures) ≡ length (t .figures)
-size t [] = refl
-size t (takes r ∷ acts) = size (acted t (takes r)) acts ∙ length-tallied (t .figures) (stepOf (answer (t .walk) r))
-size t (ends ∷ acts) = size (acted t ends) acts
-
 wraps : (y x a b : ℕ) → y ≡ (x + a) % 2 ^ 64 → (y + b) % 2 ^ 64 ≡ (x + (a + b)) % 2 ^ 64
 wraps y x a b e = omega arith
 
@@ -48,6 +43,11 @@ beside t [] = (refl, refl)
 beside t (r ∷ rs) =
     let h = beside (acted t (takes r)) rs in
     (h .0, ap (λ (l : List Step). stepOf (answer (t .walk) r) ∷ l) (h .1))
+
+size : (t : Tallied) (acts : List Act) → length (after t acts .figures) ≡ length (t .figures)
+size t [] = refl
+size t (takes r ∷ acts) = size (acted t (takes r)) acts ∙ length-tallied (t .figures) (stepOf (answer (t .walk) r))
+size t (ends ∷ acts) = size (acted t ends) acts
 
 pub tallies : Tallies
 tallies =
