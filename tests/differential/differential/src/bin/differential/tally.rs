@@ -138,7 +138,7 @@ fn print_rows(head: &str, rows: impl Iterator<Item = (String, u64)>) -> usize {
     for (name, count) in rows {
         println!("{name:<28}{count:>12}");
         if count == 0 {
-            println!("differential: {name} was never seen");
+            println!("differential: {head}: {name} was never seen");
             unseen += 1;
         }
     }
