@@ -5,8 +5,8 @@
  *
  * Demands on the caller. Only C's own: a pointer is valid for as many bytes as the length that follows it
  * says, for reading, and where it isn't const for writing too; a bool is 0 or 1. With length 0 the pointer
- * is not read and may be NULL. A pass is lent too: its pointer is valid for it, never NULL, and it doesn't lie
- * in the section lent with it. Any other arguments have an answer.
+ * is not read and may be NULL. A pass and a tally are lent too: their pointers are valid for them, never NULL, and
+ * of pass, tally and section lent with one call none overlaps another. Any other arguments have an answer.
  *
  * Refusals. A field `refusal` is 0, or a number of `enum jitamoro_refusal`, whose sentence jitamoro_refusal_text gives;
  * under a refusal every other field of the answer is 0, and no lent byte has changed, except under
@@ -44,6 +44,9 @@ extern "C" {
 
 /* The length of a PLT entry, in bytes. */
 #define JITAMORO_PLT_ENTRY_LENGTH 16u
+
+/* How many figures a tally has. */
+#define JITAMORO_TALLY_LENGTH 22u
 
 /* ---- Numbers and their texts
  *
@@ -121,6 +124,33 @@ enum jitamoro_output { JITAMORO_OUTPUTS(JITAMORO_ENUMERATOR_) };
     X(JITAMORO_KIND_TLS_DESC_TO_INITIAL_EXEC, 17, "TlsDescToInitialExec")        /* -2 to -1 */                     \
     X(JITAMORO_KIND_SKIP_TLS_DESC_CALL, 18, "SkipTlsDescCall")                   /* 0 to 2 */
 enum jitamoro_kind { JITAMORO_KINDS(JITAMORO_ENUMERATOR_) };
+
+/* The figures of a tally (jitamoro_tally_name): records relaxed, by kind and its number; records that nothing was done
+   for; records skipped; and the bytes of the relaxed records' windows, whether or not they changed. */
+#define JITAMORO_TALLY_FIGURES(X)                                                 \
+    X(JITAMORO_TALLY_MOV_INDIRECT_TO_LEA, 0, "MovIndirectToLea")                  \
+    X(JITAMORO_TALLY_MOV_INDIRECT_TO_ABSOLUTE, 1, "MovIndirectToAbsolute")        \
+    X(JITAMORO_TALLY_REX_MOV_INDIRECT_TO_ABSOLUTE, 2, "RexMovIndirectToAbsolute") \
+    X(JITAMORO_TALLY_REX_ADD_INDIRECT_TO_ABSOLUTE, 3, "RexAddIndirectToAbsolute") \
+    X(JITAMORO_TALLY_REX_ADD_INDIRECT_TO_LEA, 4, "RexAddIndirectToLea")           \
+    X(JITAMORO_TALLY_REX_SUB_INDIRECT_TO_ABSOLUTE, 5, "RexSubIndirectToAbsolute") \
+    X(JITAMORO_TALLY_REX_CMP_INDIRECT_TO_ABSOLUTE, 6, "RexCmpIndirectToAbsolute") \
+    X(JITAMORO_TALLY_CALL_INDIRECT_TO_RELATIVE, 7, "CallIndirectToRelative")      \
+    X(JITAMORO_TALLY_JMP_INDIRECT_TO_RELATIVE, 8, "JmpIndirectToRelative")        \
+    X(JITAMORO_TALLY_NO_OP, 9, "NoOp")                                            \
+    X(JITAMORO_TALLY_TLS_GD_TO_LOCAL_EXEC, 10, "TlsGdToLocalExec")                \
+    X(JITAMORO_TALLY_TLS_GD_TO_LOCAL_EXEC_LARGE, 11, "TlsGdToLocalExecLarge")     \
+    X(JITAMORO_TALLY_TLS_LD_TO_LOCAL_EXEC, 12, "TlsLdToLocalExec")                \
+    X(JITAMORO_TALLY_TLS_LD_TO_LOCAL_EXEC_NO_PLT, 13, "TlsLdToLocalExecNoPlt")    \
+    X(JITAMORO_TALLY_TLS_LD_TO_LOCAL_EXEC_64, 14, "TlsLdToLocalExec64")           \
+    X(JITAMORO_TALLY_TLS_GD_TO_INITIAL_EXEC, 15, "TlsGdToInitialExec")            \
+    X(JITAMORO_TALLY_TLS_DESC_TO_LOCAL_EXEC, 16, "TlsDescToLocalExec")            \
+    X(JITAMORO_TALLY_TLS_DESC_TO_INITIAL_EXEC, 17, "TlsDescToInitialExec")        \
+    X(JITAMORO_TALLY_SKIP_TLS_DESC_CALL, 18, "SkipTlsDescCall")                   \
+    X(JITAMORO_TALLY_NONE, 19, "none")                                            \
+    X(JITAMORO_TALLY_SKIPPED, 20, "skipped")                                      \
+    X(JITAMORO_TALLY_BYTES, 21, "bytes in rewritten windows")
+enum jitamoro_tally_figure { JITAMORO_TALLY_FIGURES(JITAMORO_ENUMERATOR_) };
 
 /* Relocation types, as in the psABI (jitamoro_r_type_name): the 39 that jitamoro_relocation_from_raw knows. Those from
    43 on are APX's, and not yet in every <elf.h>. */
@@ -258,6 +288,12 @@ struct jitamoro_pass {
     uint64_t ended;   /* 0: not ended; any other: ended. Ending sets 1 */
 };
 
+/* What the steps of a walk did, held in place by the caller beside the pass; each figure counts modulo 2^64. Any words
+   are a tally. */
+struct jitamoro_tally {
+    uint64_t figures[JITAMORO_TALLY_LENGTH]; /* by enum jitamoro_tally_figure */
+};
+
 /* What a step did: `relaxed.choice.refusal` tells a refusal. */
 struct jitamoro_step {
     bool skipped; /* then `relaxed` is 0 throughout */
@@ -313,6 +349,11 @@ struct jitamoro_record {
     bool executable;     /* whether the section is */
 };
 
+/* What a function is given of a record, with the section among it. */
+#define JITAMORO_OF_(record, section, len)                                                                             \
+    (record)->r_type, section, len, (record)->offset, (record)->flags, (record)->output_kind, (record)->executable,    \
+        (record)->address, (record)->addend
+
 /* What fills the field after relaxing; the record as it was where nothing was relaxed. */
 static inline void jitamoro_record_now_(struct jitamoro_record *record, const struct jitamoro_relaxed *relaxed) {
     if (relaxed->choice.chosen) {
@@ -347,9 +388,7 @@ bool jitamoro_next_modifier(uint8_t kind);
  */
 static inline struct jitamoro_choice jitamoro_relax_record(struct jitamoro_record *record, uint8_t *section,
                                                            size_t len) {
-    struct jitamoro_relaxed r =
-        jitamoro_relax(record->r_type, section, len, record->offset, record->flags, record->output_kind,
-                       record->executable, record->address, record->addend);
+    struct jitamoro_relaxed r = jitamoro_relax(JITAMORO_OF_(record, section, len));
     jitamoro_record_now_(record, &r);
     return r.choice;
 }
@@ -357,8 +396,7 @@ static inline struct jitamoro_choice jitamoro_relax_record(struct jitamoro_recor
 /* jitamoro_new_relaxation for a record. */
 static inline struct jitamoro_choice jitamoro_choose_record(const struct jitamoro_record *record,
                                                             const uint8_t *section, size_t len) {
-    return jitamoro_new_relaxation(record->r_type, section, len, record->offset, record->flags, record->output_kind,
-                                   record->executable, record->address, record->addend);
+    return jitamoro_new_relaxation(JITAMORO_OF_(record, section, len));
 }
 
 /* ---- A section's records, in the order of their offsets */
@@ -373,13 +411,8 @@ struct jitamoro_step jitamoro_pass_step(struct jitamoro_pass *pass, uint32_t r_t
                                         size_t len, uint64_t offset, uint8_t flags, uint8_t output_kind,
                                         bool executable, uint64_t address, int64_t addend);
 
-/* jitamoro_pass_step for a record held in place, which changes as jitamoro_relax_record says. Skipped: `r_type` becomes
-   JITAMORO_R_X86_64_NONE, since another record's field lies there now, and this one's must not be filled. */
-static inline struct jitamoro_step jitamoro_step_record(struct jitamoro_pass *pass, struct jitamoro_record *record,
-                                                        uint8_t *section, size_t len) {
-    struct jitamoro_step s =
-        jitamoro_pass_step(pass, record->r_type, section, len, record->offset, record->flags, record->output_kind,
-                           record->executable, record->address, record->addend);
+/* The same step, after it has changed the record as jitamoro_step_record says. */
+static inline struct jitamoro_step jitamoro_stepped_(struct jitamoro_record *record, struct jitamoro_step s) {
     jitamoro_record_now_(record, &s.relaxed);
     if (s.skipped) {
         record->r_type = JITAMORO_R_X86_64_NONE;
@@ -387,8 +420,36 @@ static inline struct jitamoro_step jitamoro_step_record(struct jitamoro_pass *pa
     return s;
 }
 
+/* jitamoro_pass_step for a record held in place, which changes as jitamoro_relax_record says. Skipped: `r_type` becomes
+   JITAMORO_R_X86_64_NONE, since another record's field lies there now, and this one's must not be filled. */
+static inline struct jitamoro_step jitamoro_step_record(struct jitamoro_pass *pass, struct jitamoro_record *record,
+                                                        uint8_t *section, size_t len) {
+    return jitamoro_stepped_(record, jitamoro_pass_step(pass, JITAMORO_OF_(record, section, len)));
+}
+
 /* Ends the pass, and answers 0 or a refusal: sets `ended` and nothing else. Refusals 21, 24. */
 uint8_t jitamoro_pass_end(struct jitamoro_pass *pass);
+
+/* ---- The same walk, with a tally of what it did */
+
+/* A tally before the first record: 22 zeros, as `struct jitamoro_tally tally = {{0}};` has them. */
+struct jitamoro_tally jitamoro_tally_fresh(void);
+
+/*
+ * jitamoro_pass_step, which counts too: answer, pass and section are the same. Relaxed: 1 more of the kind, and as many
+ * bytes more as its window has. None, or skipped: 1 more of these. Refused: no figure changes. Each figure wraps at
+ * 2^64; modulo that, all but the bytes add up to the records that were not refused.
+ */
+struct jitamoro_step jitamoro_tally_step(struct jitamoro_pass *pass, struct jitamoro_tally *tally, uint32_t r_type,
+                                         uint8_t *section, size_t len, uint64_t offset, uint8_t flags,
+                                         uint8_t output_kind, bool executable, uint64_t address, int64_t addend);
+
+/* jitamoro_tally_step for a record held in place, which changes as jitamoro_step_record says. */
+static inline struct jitamoro_step jitamoro_tally_step_record(struct jitamoro_pass *pass, struct jitamoro_tally *tally,
+                                                              struct jitamoro_record *record, uint8_t *section,
+                                                              size_t len) {
+    return jitamoro_stepped_(record, jitamoro_tally_step(pass, tally, JITAMORO_OF_(record, section, len)));
+}
 
 /* ---- Types, ranges, PLT entries, padding */
 
@@ -439,6 +500,14 @@ static inline const char *jitamoro_kind_name(uint8_t kind) {
     }
 }
 
+/* As "RexMovIndirectToAbsolute", "none", "bytes in rewritten windows". */
+static inline const char *jitamoro_tally_name(uint8_t figure) {
+    switch (figure) {
+        JITAMORO_TALLY_FIGURES(JITAMORO_TEXT_)
+    default: return "no such figure";
+    }
+}
+
 /* As "R_X86_64_PC32": every type of the psABI, but for 39 and 40, which are no longer in use. */
 static inline const char *jitamoro_r_type_name(uint32_t r_type) {
     switch (r_type) {
@@ -458,6 +527,7 @@ static inline const char *jitamoro_output_name(uint8_t output_kind) {
 }
 
 #undef JITAMORO_TEXT_
+#undef JITAMORO_OF_
 #undef JITAMORO_ENUMERATOR_
 
 /* ---- The layout: where each field lies */
@@ -507,6 +577,9 @@ JITAMORO_AT_(jitamoro_pass, last, 0);
 JITAMORO_AT_(jitamoro_pass, window, 8);
 JITAMORO_AT_(jitamoro_pass, pending, 16);
 JITAMORO_AT_(jitamoro_pass, ended, 24);
+
+JITAMORO_SIZE_(struct jitamoro_tally, 176);
+JITAMORO_AT_(jitamoro_tally, figures, 0);
 
 JITAMORO_SIZE_(struct jitamoro_step, 40);
 JITAMORO_AT_(jitamoro_step, skipped, 0);

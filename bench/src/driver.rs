@@ -1,12 +1,13 @@
-//! What is done with every case: both sides timed by turns, or one side run for valgrind.
+//! What is done with every case: its sides timed by turns, or one side run for valgrind.
 
 use std::cell::Cell;
 use std::env;
+use std::fmt::Write;
 use std::process;
 use std::process::Command;
 use std::time::Duration;
 
-/// Rounds in which both are timed, by turns. An odd number, so that there is a middle one.
+/// Rounds in which all sides are timed, by turns. An odd number, so that there is a middle one.
 const ROUNDS: usize = 31;
 const USAGE: &str = "usage: bench [--counts] [ARCHIVE ..]
        bench --case NAME SIDE CALLS [ARCHIVE ..]";
@@ -22,6 +23,9 @@ impl<T> Inputs for Vec<T> {
         self.len()
     }
 }
+
+/// A side's name, and what does so many calls with the first inputs and gives the time.
+pub type Side<'a, I> = (&'a str, &'a dyn Fn(&mut I, usize) -> Duration);
 
 enum Task {
     Time { counts: bool },
@@ -89,50 +93,38 @@ impl Driver {
         port: impl Fn(&mut I, usize) -> Duration,
         rust: impl Fn(&mut I, usize) -> Duration,
     ) {
-        self.pair(name, ["port", "Rust"], runs, make, port, rust);
+        self.sides(name, runs, make, [("port", &port), ("Rust", &rust)]);
     }
 
-    /// The same of any two.
-    pub fn pair<I: Inputs>(
+    /// The same of any sides; the first is held against each of the others.
+    pub fn sides<I: Inputs, const N: usize>(
         &self,
         name: &str,
-        sides: [&str; 2],
         runs: usize,
         make: impl FnOnce() -> I,
-        run_a: impl Fn(&mut I, usize) -> Duration,
-        run_b: impl Fn(&mut I, usize) -> Duration,
+        sides: [Side<I>; N],
     ) {
-        let run = |side, inputs: &mut I, calls| match side {
-            0 => run_a(inputs, calls),
-            _ => run_b(inputs, calls),
-        };
+        let names = sides.map(|side| side.0);
         match &self.task {
             Task::Run(one) if one.name == name => {
-                let Some(side) = sides.iter().position(|side| *side == one.side) else {
-                    fail(&format!("{name}: the sides are {sides:?}"));
+                let Some((_, run)) = sides.iter().find(|side| side.0 == one.side) else {
+                    fail(&format!("{name}: the sides are {names:?}"));
                 };
                 let mut inputs = make();
                 if one.calls > inputs.calls() {
                     fail(&format!("{name}: there are {} calls", inputs.calls()));
                 }
-                run(side, &mut inputs, one.calls);
+                run(&mut inputs, one.calls);
                 one.done.set(true);
             }
             Task::Run(_) => {}
             Task::Time { counts } => {
                 let mut inputs = make();
                 let calls = inputs.calls();
-                let mut times = [[0.0; 2]; ROUNDS];
-                for (round, times) in times.iter_mut().enumerate() {
-                    // Each goes first in every second round.
-                    for side in [round % 2, 1 - round % 2] {
-                        let time: Duration = (0..runs).map(|_| run(side, &mut inputs, calls)).sum();
-                        times[side] = time.as_nanos() as f64 / (calls * runs) as f64;
-                    }
-                }
+                let times = time(&mut inputs, runs, &sides);
                 drop(inputs);
-                let counts = counts.then(|| sides.map(|side| self.count(name, side, calls)));
-                print(name, sides, &times, counts);
+                let counts = counts.then(|| names.map(|side| self.count(name, side, calls)));
+                print(name, names, &times, counts);
             }
         }
     }
@@ -171,23 +163,58 @@ fn fail(message: &str) -> ! {
     process::exit(2)
 }
 
-/// Prints the ns a call of both sides, their ratio, and the instructions if they were counted.
-fn print(name: &str, [a, b]: [&str; 2], times: &[[f64; 2]], counts: Option<[f64; 2]>) {
-    let columns: [fn(&[f64; 2]) -> f64; 3] = [|it| it[0], |it| it[1], |it| it[0] / it[1]];
-    let [of_a, of_b, ratio] = columns.map(|figure| {
-        let mut column: Vec<f64> = times.iter().map(figure).collect();
-        column.sort_by(f64::total_cmp);
-        let [low, middle, high] = [0, ROUNDS / 2, ROUNDS - 1].map(|place| column[place]);
-        format!("{middle:.2} ({low:.2}..{high:.2})")
-    });
-    let counted = counts.map_or_else(String::new, |[of_a, of_b]| {
-        format!(
-            " instructions {a} {of_a:.1} {b} {of_b:.1} {a}/{b} {:.2}",
-            of_a / of_b
-        )
-    });
-    let ratio_width = if counted.is_empty() { 0 } else { 18 };
-    println!("{name:<31} {a} {of_a:<24} {b} {of_b:<24} {a}/{b} {ratio:<ratio_width$}{counted}");
+/// The ns a call of each side, for each round.
+fn time<I: Inputs, const N: usize>(
+    inputs: &mut I,
+    runs: usize,
+    sides: &[Side<I>; N],
+) -> [[f64; N]; ROUNDS] {
+    let calls = inputs.calls();
+    let mut times = [[0.0; N]; ROUNDS];
+    for (round, times) in times.iter_mut().enumerate() {
+        // Each goes first in its turn.
+        for side in (0..N).map(|place| (round + place) % N) {
+            let time: Duration = (0..runs).map(|_| sides[side].1(inputs, calls)).sum();
+            times[side] = time.as_nanos() as f64 / (calls * runs) as f64;
+        }
+    }
+    times
+}
+
+/// Prints the ns a call of every side, the first's ratio to each other one, and the instructions if they were counted.
+fn print<const N: usize>(
+    name: &str,
+    sides: [&str; N],
+    times: &[[f64; N]],
+    counts: Option<[f64; N]>,
+) {
+    let mut line = format!("{name:<31}");
+    for (place, side) in sides.iter().enumerate() {
+        let figure = middle(times.iter().map(|it| it[place]));
+        write!(line, " {side} {figure:<24}").unwrap();
+    }
+    for (place, side) in sides.iter().enumerate().skip(1) {
+        let ratio = middle(times.iter().map(|it| it[0] / it[place]));
+        write!(line, " {}/{side} {ratio:<18}", sides[0]).unwrap();
+    }
+    if let Some(counts) = counts {
+        line.push_str(" instructions");
+        for (side, count) in sides.iter().zip(counts) {
+            write!(line, " {side} {count:.1}").unwrap();
+        }
+        for (side, count) in sides.iter().zip(counts).skip(1) {
+            write!(line, " {}/{side} {:.2}", sides[0], counts[0] / count).unwrap();
+        }
+    }
+    println!("{}", line.trim_end());
+}
+
+/// The median of a figure of all rounds, with the least and the greatest.
+fn middle(figures: impl Iterator<Item = f64>) -> String {
+    let mut column: Vec<f64> = figures.collect();
+    column.sort_by(f64::total_cmp);
+    let [low, middle, high] = [0, ROUNDS / 2, ROUNDS - 1].map(|place| column[place]);
+    format!("{middle:.2} ({low:.2}..{high:.2})")
 }
 
 unsafe extern "C" {

@@ -1,8 +1,9 @@
-//! Times relaxing, choosing and the pass over the records of an archive, in its own sections and
-//! order, as each output kind would have them.
+//! Times relaxing, choosing and the pass, with a tally and without, over the records of an archive, in its own
+//! sections and order, as each output kind would have them.
 
 use crate::driver::Driver;
 use crate::driver::Inputs;
+use crate::driver::Side;
 use crate::relaxing::Input;
 use crate::relaxing::Pool;
 use crate::relaxing::RUNS;
@@ -10,12 +11,17 @@ use crate::relaxing::numbers;
 use crate::relaxing::time_choose;
 use crate::relaxing::time_relax;
 use crate::relaxing::types;
+use differential::pass::BYTES;
+use differential::pass::NONE;
+use differential::pass::SKIPPED;
 use differential::relaxation::SECTION_LIMIT;
 use differential::relaxation::is_inside;
 use differential::relaxation::kind_number;
 use differential::relaxation::window;
 use jitamoro::sys;
 use jitamoro::sys::Pass;
+use jitamoro::sys::StepAnswer;
+use jitamoro::sys::Tally;
 use libwild::oracle;
 use libwild::oracle::OutputKind;
 use libwild::oracle::RelocationModifier;
@@ -40,6 +46,27 @@ const OUTPUT_KINDS: [&str; 6] = [
 /// A step. `P` is the pass, `F` and `K` are how flags and output kinds are given.
 type TakeStep<P, F, K, T> =
     unsafe extern "C" fn(&mut P, u32, *mut u8, usize, u64, F, K, bool, u64, i64) -> T;
+/// A step with a tally, which is `C`.
+type TakeTallyStep<P, C, F, K, T> =
+    unsafe extern "C" fn(&mut P, &mut C, u32, *mut u8, usize, u64, F, K, bool, u64, i64) -> T;
+
+/// Calls one of the port's steps with what it is lent, a record and its section.
+macro_rules! port_step {
+    ($function:ident, $input:expr, $section:expr $(, $lent:expr)+) => {{
+        let it = &$input.record;
+        black_box(&sys::$function(
+            $($lent,)+
+            it.r_type,
+            $section,
+            it.offset,
+            it.flags,
+            it.output_kind,
+            it.executable,
+            it.address,
+            it.addend,
+        ));
+    }};
+}
 
 pub fn time_archive(driver: &Driver, path: &str) {
     let path = Path::new(path);
@@ -58,6 +85,20 @@ pub fn time_archive(driver: &Driver, path: &str) {
     driver.case(&step, RUNS, steps, port_step_all, rust_step_all);
     let pass = format!("pass, {name}, all six");
     driver.case(&pass, RUNS, || both_walk(all()), port_pass, rust_pass);
+    let tally_step = format!("tally step, {name}, all six");
+    let sides: [Side<Steps>; 3] = [
+        ("port", &port_tally_step_all),
+        ("Rust", &rust_tally_step_all),
+        ("untallied", &port_step_all),
+    ];
+    driver.sides(&tally_step, RUNS, steps, sides);
+    let tally_pass = format!("tally pass, {name}, all six");
+    let sides: [Side<Pool>; 3] = [
+        ("port", &port_tally_pass),
+        ("Rust", &rust_tally_pass),
+        ("untallied", &port_pass),
+    ];
+    driver.sides(&tally_pass, RUNS, || both_tally(all()), sides);
 }
 
 /// The records of these output kinds, one kind after the other.
@@ -83,6 +124,28 @@ fn both_walk(mut pool: Pool) -> Pool {
     pool
 }
 
+fn port_tally_pass(pool: &mut Pool, calls: usize) -> Duration {
+    let done = |tally: &Tally| _ = black_box(tally);
+    pool.run_all(calls, |inputs, bytes| port_tally_walk(inputs, bytes, done))
+}
+
+fn rust_tally_pass(pool: &mut Pool, calls: usize) -> Duration {
+    let done = |tally: &RustTally| _ = black_box(tally);
+    pool.run_all(calls, |inputs, bytes| rust_tally_walk(inputs, bytes, done))
+}
+
+/// The same pool, after it was seen that both passes leave the same bytes and tallies.
+fn both_tally(mut pool: Pool) -> Pool {
+    let (mut port, mut rust) = (Vec::new(), Vec::new());
+    let by_port =
+        pool.walked(|inputs, bytes| port_tally_walk(inputs, bytes, |it| port.push(it.figures)));
+    let by_rust =
+        pool.walked(|inputs, bytes| rust_tally_walk(inputs, bytes, |it| rust.push(it.figures)));
+    assert!(by_port == by_rust, "the passes leave other bytes");
+    assert!(port == rust, "the passes leave other tallies");
+    pool
+}
+
 /// Records, and the pass before each, as either has it.
 struct Steps {
     pool: Pool,
@@ -104,7 +167,7 @@ impl Steps {
                 let mut pass = sys::jitamoro_pass_fresh();
                 for input in inputs {
                     port.push(pass);
-                    port_step(&mut pass, input, section);
+                    port_step!(pass_step, input, section, &mut pass);
                 }
             });
         });
@@ -113,7 +176,7 @@ impl Steps {
                 let mut pass = RustPass::default();
                 for input in inputs {
                     rust.push(pass);
-                    rust_step(&mut pass, &RustRecord::from(input), section);
+                    rust_step(&mut pass, &mut (), &RustRecord::from(input), section);
                 }
             });
         });
@@ -122,49 +185,89 @@ impl Steps {
     }
 }
 
-/// Each step by itself: with a copy of the pass before it, through a pointer.
-fn step_all<P: Copy, F, K, T>(
-    function: TakeStep<P, F, K, T>,
-    given: impl Fn(&Input) -> (F, K),
+/// Each step by itself, with a copy of the pass before it; all with one tally.
+fn step_all<P: Copy, C: Default, T>(
     passes: &[P],
     pool: &mut Pool,
     calls: usize,
+    step: impl Fn(&mut P, &mut C, &Input, *mut u8) -> T,
 ) -> Duration {
-    let function = black_box(function);
     pool.run_all(calls, |inputs, bytes| {
         let bytes = bytes.as_mut_ptr();
+        let mut tally = C::default();
         for (input, pass) in inputs.iter().zip(passes) {
             let mut pass = *pass;
-            let it = &input.record;
-            let (flags, output_kind) = given(input);
-            // SAFETY: a whole section inside the bytes, by its pointer and length.
-            black_box(&unsafe {
-                function(
-                    &mut pass,
-                    it.r_type,
-                    bytes.add(input.start),
-                    input.length,
-                    it.offset,
-                    flags,
-                    output_kind,
-                    it.executable,
-                    it.address,
-                    it.addend,
-                )
-            });
+            // SAFETY: the section starts inside the bytes.
+            let section = unsafe { bytes.add(input.start) };
+            black_box(&step(&mut pass, &mut tally, input, section));
             black_box(&pass);
         }
+        black_box(&tally);
     })
+}
+
+/// Calls a step through its pointer, with what it is lent, a record and its section.
+macro_rules! take_step {
+    ($function:ident, $given:ident, $input:expr, $section:expr $(, $lent:expr)+) => {{
+        let it = &$input.record;
+        let (flags, output_kind) = $given($input);
+        // SAFETY: a whole section, by its pointer and length.
+        unsafe {
+            $function(
+                $($lent,)+
+                it.r_type,
+                $section,
+                $input.length,
+                it.offset,
+                flags,
+                output_kind,
+                it.executable,
+                it.address,
+                it.addend,
+            )
+        }
+    }};
 }
 
 fn port_step_all(steps: &mut Steps, calls: usize) -> Duration {
     let Steps { pool, port, .. } = steps;
-    step_all(sys::jitamoro_pass_step, numbers, port, pool, calls)
+    let step = black_box(sys::jitamoro_pass_step as TakeStep<Pass, u8, u8, StepAnswer>);
+    step_all(
+        port,
+        pool,
+        calls,
+        move |pass, _: &mut (), input, section| take_step!(step, numbers, input, section, pass),
+    )
 }
 
 fn rust_step_all(steps: &mut Steps, calls: usize) -> Duration {
     let Steps { pool, rust, .. } = steps;
-    step_all(rust_pass_step, types, rust, pool, calls)
+    let step = black_box(rust_pass_step as TakeStep<RustPass, ValueFlags, OutputKind, Step>);
+    step_all(
+        rust,
+        pool,
+        calls,
+        move |pass, _: &mut (), input, section| take_step!(step, types, input, section, pass),
+    )
+}
+
+fn port_tally_step_all(steps: &mut Steps, calls: usize) -> Duration {
+    let Steps { pool, port, .. } = steps;
+    let step =
+        black_box(sys::jitamoro_tally_step as TakeTallyStep<Pass, Tally, u8, u8, StepAnswer>);
+    step_all(port, pool, calls, move |pass, tally, input, section| {
+        take_step!(step, numbers, input, section, pass, tally)
+    })
+}
+
+fn rust_tally_step_all(steps: &mut Steps, calls: usize) -> Duration {
+    let Steps { pool, rust, .. } = steps;
+    let step = black_box(
+        rust_tally_step as TakeTallyStep<RustPass, RustTally, ValueFlags, OutputKind, Step>,
+    );
+    step_all(rust, pool, calls, move |pass, tally, input, section| {
+        take_step!(step, types, input, section, pass, tally)
+    })
 }
 
 /// Each section's inputs, and its bytes.
@@ -183,29 +286,22 @@ fn port_walk(inputs: &[Input], bytes: &mut [u8]) {
     by_section(inputs, bytes, |inputs, section| {
         let mut pass = sys::jitamoro_pass_fresh();
         for input in inputs {
-            port_step(&mut pass, input, section);
+            port_step!(pass_step, input, section, &mut pass);
         }
         black_box(sys::jitamoro_pass_end(&mut pass));
     });
 }
 
-#[inline]
-fn port_step(pass: &mut Pass, input: &Input, section: &mut [u8]) {
-    let it = &input.record;
-    // SAFETY: a slice lent by its pointer and length.
-    black_box(&unsafe {
-        sys::jitamoro_pass_step(
-            pass,
-            it.r_type,
-            section.as_mut_ptr(),
-            section.len(),
-            it.offset,
-            it.flags,
-            it.output_kind,
-            it.executable,
-            it.address,
-            it.addend,
-        )
+/// With a tally a section, which is given to `done`.
+fn port_tally_walk(inputs: &[Input], bytes: &mut [u8], mut done: impl FnMut(&Tally)) {
+    by_section(inputs, bytes, |inputs, section| {
+        let mut pass = sys::jitamoro_pass_fresh();
+        let mut tally = sys::jitamoro_tally_fresh();
+        for input in inputs {
+            port_step!(tally_step, input, section, &mut pass, &mut tally);
+        }
+        black_box(sys::jitamoro_pass_end(&mut pass));
+        done(&tally);
     });
 }
 
@@ -216,9 +312,24 @@ fn rust_walk(inputs: &[Input], bytes: &mut [u8]) {
     by_section(inputs, bytes, |inputs, section| {
         let mut pass = RustPass::default();
         for input in inputs {
-            black_box(&rust_step(&mut pass, &RustRecord::from(input), section));
+            let record = RustRecord::from(input);
+            black_box(&rust_step(&mut pass, &mut (), &record, section));
         }
         black_box(rust_end(&mut pass));
+    });
+}
+
+/// The same, counted in the same loop: with a tally a section, which is given to `done`.
+fn rust_tally_walk(inputs: &[Input], bytes: &mut [u8], mut done: impl FnMut(&RustTally)) {
+    by_section(inputs, bytes, |inputs, section| {
+        let mut pass = RustPass::default();
+        let mut tally = RustTally::default();
+        for input in inputs {
+            let record = RustRecord::from(input);
+            black_box(&rust_step(&mut pass, &mut tally, &record, section));
+        }
+        black_box(rust_end(&mut pass));
+        done(&tally);
     });
 }
 
@@ -228,6 +339,31 @@ struct RustPass {
     window: u64,
     skip: bool,
     ended: bool,
+}
+
+/// What is counted of the records that aren't refused: nothing, or a tally's figures.
+trait Count {
+    /// A record of this figure, and the bytes of its window.
+    fn count(&mut self, figure: usize, bytes: u64);
+}
+
+impl Count for () {
+    #[inline(always)]
+    fn count(&mut self, _: usize, _: u64) {}
+}
+
+#[derive(Default)]
+struct RustTally {
+    figures: [u64; 22],
+}
+
+impl Count for RustTally {
+    #[inline(always)]
+    fn count(&mut self, figure: usize, bytes: u64) {
+        let figures = &mut self.figures;
+        figures[figure] = figures[figure].wrapping_add(1);
+        figures[BYTES] = figures[BYTES].wrapping_add(bytes);
+    }
 }
 
 /// A record as wild is given it.
@@ -266,37 +402,52 @@ enum Step {
     Refused(u8),
 }
 
-/// The step behind the port's kind of call.
-#[allow(improper_ctypes_definitions)]
-#[inline(never)]
-unsafe extern "C" fn rust_pass_step(
-    pass: &mut RustPass,
-    r_type: u32,
-    start: *mut u8,
-    len: usize,
-    offset: u64,
-    flags: ValueFlags,
-    output_kind: OutputKind,
-    executable: bool,
-    address: u64,
-    addend: i64,
-) -> Step {
-    // SAFETY: the driver lends a whole section.
-    let section = unsafe { slice::from_raw_parts_mut(start, len) };
-    let record = RustRecord {
-        r_type,
-        offset,
-        flags,
-        output_kind,
-        executable,
-        address,
-        addend,
-    };
-    rust_step(pass, &record, section)
+/// Steps behind the port's kind of call, with a tally or without.
+macro_rules! rust_steps {
+    ($($name:ident($($tally:ident: $tally_type:ty)?) counts $counts:expr;)*) => {$(
+        #[allow(improper_ctypes_definitions)]
+        #[inline(never)]
+        unsafe extern "C" fn $name(
+            pass: &mut RustPass,
+            $($tally: $tally_type,)?
+            r_type: u32,
+            start: *mut u8,
+            len: usize,
+            offset: u64,
+            flags: ValueFlags,
+            output_kind: OutputKind,
+            executable: bool,
+            address: u64,
+            addend: i64,
+        ) -> Step {
+            // SAFETY: the driver lends a whole section.
+            let section = unsafe { slice::from_raw_parts_mut(start, len) };
+            let record = RustRecord {
+                r_type,
+                offset,
+                flags,
+                output_kind,
+                executable,
+                address,
+                addend,
+            };
+            rust_step(pass, $counts, &record, section)
+        }
+    )*};
+}
+
+rust_steps! {
+    rust_pass_step() counts &mut ();
+    rust_tally_step(tally: &mut RustTally) counts tally;
 }
 
 #[inline(always)]
-fn rust_step(pass: &mut RustPass, it: &RustRecord, section: &mut [u8]) -> Step {
+fn rust_step(
+    pass: &mut RustPass,
+    counts: &mut impl Count,
+    it: &RustRecord,
+    section: &mut [u8],
+) -> Step {
     if pass.ended {
         return Step::Refused(21);
     }
@@ -312,12 +463,14 @@ fn rust_step(pass: &mut RustPass, it: &RustRecord, section: &mut [u8]) -> Step {
     if pass.skip {
         pass.skip = false;
         pass.last = it.offset;
+        counts.count(SKIPPED, 0);
         return Step::Skipped;
     }
     match wild_choice(it, section) {
-        Some(relaxation) => rust_relax(pass, relaxation, it, section),
+        Some(relaxation) => rust_relax(pass, counts, relaxation, it, section),
         None => {
             pass.last = it.offset;
+            counts.count(NONE, 0);
             Step::Nothing
         }
     }
@@ -351,6 +504,7 @@ fn wild_choice(it: &RustRecord, section: &[u8]) -> Option<oracle::Relaxation> {
 #[inline]
 fn rust_relax(
     pass: &mut RustPass,
+    counts: &mut impl Count,
     relaxation: oracle::Relaxation,
     it: &RustRecord,
     section: &mut [u8],
@@ -367,6 +521,7 @@ fn rust_relax(
         }
         pass.window = offset.wrapping_add_signed(after);
     }
+    counts.count(usize::from(kind), (before + after) as u64);
     pass.last = offset;
     pass.skip = relaxation.next_modifier() == RelocationModifier::SkipNextRelocation;
     relaxation.apply(section, &mut offset, &mut addend);

@@ -482,13 +482,18 @@ pub fn time_all(driver: &Driver) {
     );
     let long = || Pool::long(&mix());
     time_relax(driver, "relax, mix, 256 MiB section", long);
-    driver.pair(
+    driver.sides(
         "relax, mix, port alone",
-        ["256 MiB", "64 B"],
         RUNS,
         || LongAndShort(long(), short()),
-        |it, calls| port_relax_all(&mut it.0, calls),
-        |it, calls| port_relax_all(&mut it.1, calls),
+        [
+            ("256 MiB", &|it: &mut LongAndShort, calls| {
+                port_relax_all(&mut it.0, calls)
+            }),
+            ("64 B", &|it: &mut LongAndShort, calls| {
+                port_relax_all(&mut it.1, calls)
+            }),
+        ],
     );
 }
 

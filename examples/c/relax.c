@@ -1,4 +1,4 @@
-/* Relaxes a record, walks a section with a pass, and writes a PLT entry. */
+/* Relaxes a record, walks a section with a pass and a tally, and writes a PLT entry. */
 #include <inttypes.h>
 #include <jitamoro.h>
 #include <stdio.h>
@@ -58,15 +58,25 @@ struct place {
     uint64_t offset;
 };
 
-/* Steps over one record; a refused one leaves pass, record and section as they were, and the walk goes on. */
-static void step(struct jitamoro_pass *pass, const struct place *place, uint8_t *section, size_t len) {
+/* Steps over one record; a refused one leaves pass, tally, record and section as they were, and the walk goes on. */
+static void step(struct jitamoro_pass *pass, struct jitamoro_tally *tally, const struct place *place, uint8_t *section,
+                 size_t len) {
     struct jitamoro_record record = record_at(place->r_type, place->offset);
-    struct jitamoro_step s = jitamoro_step_record(pass, &record, section, len);
+    struct jitamoro_step s = jitamoro_tally_step_record(pass, tally, &record, section, len);
     printf("  %s at %" PRIu64 ": ", place->name, place->offset);
     if (s.skipped) {
         puts("skipped");
     } else {
         print_choice(s.relaxed.choice, &record);
+    }
+}
+
+/* What the walk did. */
+static void print_tally(const struct jitamoro_tally *tally) {
+    for (uint8_t i = 0; i < JITAMORO_TALLY_LENGTH; i++) {
+        if (tally->figures[i] != 0) {
+            printf("  %s: %" PRIu64 "\n", jitamoro_tally_name(i), tally->figures[i]);
+        }
     }
 }
 
@@ -81,9 +91,10 @@ static bool walk(void) {
                          0x66, 0x66, 0x48, 0xe8, 0, 0, 0, 0, /* call __tls_get_addr */
                          0x4c, 0x8b, 0x2d, 0,    0, 0, 0};   /* mov x@GOTPCREL(%rip), %r13 */
     struct jitamoro_pass pass = jitamoro_pass_fresh();
+    struct jitamoro_tally tally = jitamoro_tally_fresh();
     puts("a walk:");
     for (size_t i = 0; i < sizeof places / sizeof places[0]; i++) {
-        step(&pass, &places[i], section, sizeof section);
+        step(&pass, &tally, &places[i], section, sizeof section);
     }
     uint8_t refusal = jitamoro_pass_end(&pass);
     if (refusal != JITAMORO_NOT_REFUSED) {
@@ -92,6 +103,7 @@ static bool walk(void) {
     }
     puts("  ended");
     print_bytes(section, sizeof section);
+    print_tally(&tally);
     return true;
 }
 

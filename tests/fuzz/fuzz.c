@@ -1,7 +1,7 @@
 /* Calls the functions of jitamoro.h with edge and random arguments for a while, and checks what they answer and
-   every byte that they were lent: fuzz PLACEMENT SECONDS SEED. PLACEMENT is where sections and passes lie: `end`,
-   so that they end at a page that can't be accessed; `begin`, so that they begin after one; `heap`, in blocks of
-   malloc of just their length. It ends with 0, with 1 at the first wrong answer or byte, or with 3 at a fault. */
+   every byte that they were lent: fuzz PLACEMENT SECONDS SEED. PLACEMENT is where sections, passes and tallies lie:
+   `end`, so that they end at a page that can't be accessed; `begin`, so that they begin after one; `heap`, in blocks
+   of malloc of just their length. It ends with 0, with 1 at the first wrong answer or byte, or with 3 at a fault. */
 #define _GNU_SOURCE
 #include "tables.h"
 #include <inttypes.h>
@@ -13,7 +13,7 @@
 #include <time.h>
 #include <unistd.h>
 
-enum { PAGE = 4096, ARENA = 2 * PAGE, MARGIN = 64, MAX_WATCHED = ARENA, MAX_FIELDS = 15 };
+enum { PAGE = 4096, ARENA = 2 * PAGE, MARGIN = 64, MAX_WATCHED = ARENA, MAX_FIELDS = 15 + JITAMORO_TALLY_LENGTH };
 
 /* ---- What is tried */
 
@@ -27,10 +27,10 @@ struct record {
 };
 
 /* pass_end is lent no section, but answers as the others do. */
-enum function { RELAX, NEW_RELAXATION, APPLY, PASS_STEP, PASS_END, WRITE_PLT_ENTRY, FILL_SECTION_PADDING };
+enum function { RELAX, NEW_RELAXATION, APPLY, PASS_STEP, TALLY_STEP, PASS_END, WRITE_PLT_ENTRY, FILL_SECTION_PADDING };
 
-static const char *const names[] = {"relax",           "new_relaxation",      "apply", "pass_step", "pass_end",
-                                    "write_plt_entry", "fill_section_padding"};
+static const char *const names[] = {"relax",      "new_relaxation", "apply",           "pass_step",
+                                    "tally_step", "pass_end",       "write_plt_entry", "fill_section_padding"};
 
 /* A call; each function uses some of the fields. */
 struct call {
@@ -38,6 +38,7 @@ struct call {
     struct record record;
     uint8_t kind, inst_offset;
     struct jitamoro_pass pass;
+    struct jitamoro_tally tally;
     uint64_t got_address, plt_address;
 };
 
@@ -59,9 +60,24 @@ struct answer {
     uint64_t field[MAX_FIELDS];
 };
 
-/* Fields of a choice; in a relaxed record's answer offset and addend follow, in a step's then skipped and the pass
-   that it left. */
-enum { REFUSAL, CHOSEN, KIND, INST_OFFSET, MANDATORY, SKIP_NEXT, GOT_FALLBACK, NEW_TYPE };
+/* Fields of a choice; in a relaxed record's answer offset and addend follow, in a step's then skipped, the pass that it
+   left, and the tally. */
+enum {
+    REFUSAL,
+    CHOSEN,
+    KIND,
+    INST_OFFSET,
+    MANDATORY,
+    SKIP_NEXT,
+    GOT_FALLBACK,
+    NEW_TYPE,
+    NEW_OFFSET,
+    NEW_ADDEND,
+    SKIPPED
+};
+
+/* Figures that wrap: of records, and of bytes. */
+enum { WRAPPED_COUNT, WRAPPED_BYTES, WRAPS };
 
 static struct {
     enum { END, BEGIN, HEAP } placement;
@@ -70,6 +86,7 @@ static struct {
     const struct lent *lent;
     uint64_t number; /* what such a function was given */
     uint64_t relaxed[KINDS], rewritten[KINDS], refused[256];
+    uint64_t raised[JITAMORO_TALLY_LENGTH], wrapped[WRAPS]; /* figures */
 } run;
 
 /* ---- Reports */
@@ -91,6 +108,13 @@ static void print_call(const struct call *c, const struct lent *l, bool ended) {
     printf("  kind %d instruction offset %d; pass %" PRIu64 " %" PRIu64 " %" PRIu64 " %" PRIu64 "; GOT %#" PRIx64
            " PLT %#" PRIx64 "\n",
            c->kind, c->inst_offset, p->last, p->window, p->pending, p->ended, c->got_address, c->plt_address);
+    if (c->function == TALLY_STEP) {
+        printf("  tally:");
+        for (size_t i = 0; i < JITAMORO_TALLY_LENGTH; i++) {
+            printf(" %" PRIu64, c->tally.figures[i]);
+        }
+        puts("");
+    }
     printf("  section of %zu bytes; watched are %zu from byte %td on\n", l->len, l->watched_len, l->first);
     print_bytes("before", l->before, l->watched_len);
     if (ended) {
@@ -116,17 +140,24 @@ static void check(bool right, const char *what) {
     }
 }
 
-/* Where passes lie, and the bytes beside them that can be accessed: watched as those beside a section are. */
+/* Bytes beside a lent pass or tally that can be accessed: watched as those beside a section are. */
+struct beside {
+    uint8_t *bytes, before[MARGIN];
+};
+
+/* Where passes and tallies lie. */
 static struct jitamoro_pass *lent_pass;
-static uint8_t *beside_pass, beside_before[MARGIN];
+static struct jitamoro_tally *lent_tally;
+static struct beside beside_pass, beside_tally;
 
 static void on_fault(int number, siginfo_t *info, void *context) {
     (void)context;
     if (run.call != NULL) {
         const uint8_t *section = run.call->function == NEW_RELAXATION ? run.lent->read : run.lent->write;
         uintptr_t at = (uintptr_t)info->si_addr;
-        printf("fuzz: at byte %td of the section, %td of the pass:\n", (ptrdiff_t)(at - (uintptr_t)section),
-               (ptrdiff_t)(at - (uintptr_t)lent_pass));
+        printf("fuzz: at byte %td of the section, %td of the pass, %td of the tally:\n",
+               (ptrdiff_t)(at - (uintptr_t)section), (ptrdiff_t)(at - (uintptr_t)lent_pass),
+               (ptrdiff_t)(at - (uintptr_t)lent_tally));
     }
     report(number == SIGSEGV ? "access outside what was lent" : "signal", false);
     _exit(3);
@@ -212,6 +243,16 @@ static struct jitamoro_pass any_pass(uint64_t offset) {
     };
 }
 
+/* Anything, often 0 or little less than 2^64. */
+static struct jitamoro_tally any_tally(void) {
+    struct jitamoro_tally t;
+    for (size_t i = 0; i < JITAMORO_TALLY_LENGTH; i++) {
+        uint64_t word = any64();
+        t.figures[i] = word % 4 == 0 ? word : -((word >> 8) % (word % 4 == 1 ? 2 : 24));
+    }
+    return t;
+}
+
 static struct record any_record(size_t len) {
     return (struct record){
         .r_type = one_in(4) ? (uint32_t)any_number() : (uint32_t)below(61),
@@ -271,15 +312,20 @@ static void fill_at_random(uint8_t *bytes, size_t len) {
     }
 }
 
-/* On the heap nothing lies beside the pass, and what is watched lies elsewhere. */
-static void place_pass(void) {
+/* Room for a pass or a tally. On the heap nothing lies beside it, and what is watched lies elsewhere. */
+static void *place(size_t len, struct beside *beside) {
     uint8_t *page = guarded_pages(PAGE, PROT_READ | PROT_WRITE, MAP_PRIVATE | MAP_ANONYMOUS, -1);
-    size_t at = run.placement == END ? PAGE - sizeof *lent_pass : 0;
-    lent_pass = run.placement == HEAP ? malloc(sizeof *lent_pass) : (void *)(page + at);
-    check(lent_pass != NULL, "no memory");
-    beside_pass = run.placement == END ? page + at - MARGIN : page + sizeof *lent_pass;
-    fill_at_random(beside_before, MARGIN);
-    memcpy(beside_pass, beside_before, MARGIN);
+    size_t at = run.placement == END ? PAGE - len : 0;
+    void *lent = run.placement == HEAP ? malloc(len) : page + at;
+    check(lent != NULL, "no memory");
+    beside->bytes = run.placement == END ? page + at - MARGIN : page + len;
+    fill_at_random(beside->before, MARGIN);
+    memcpy(beside->bytes, beside->before, MARGIN);
+    return lent;
+}
+
+static bool unchanged_beside(const struct beside *beside) {
+    return memcmp(beside->bytes, beside->before, MARGIN) == 0;
 }
 
 /* A section of a length with bytes at random, to be given back by `release`. An empty one may be at NULL. */
@@ -359,6 +405,12 @@ static void add_pass(struct answer *a, const struct jitamoro_pass *p) {
     add(a, p->ended);
 }
 
+static void add_tally(struct answer *a, const struct jitamoro_tally *t) {
+    for (size_t i = 0; i < JITAMORO_TALLY_LENGTH; i++) {
+        add(a, t->figures[i]);
+    }
+}
+
 static struct answer of_choice(struct jitamoro_choice c) {
     return (struct answer){
         8, {c.refusal, c.chosen, c.kind, c.inst_offset, c.mandatory, c.skip_next, c.needs_got_fallback, c.new_type}};
@@ -375,6 +427,12 @@ static struct answer of_step(struct jitamoro_step s) {
     struct answer a = of_relaxed(s.relaxed);
     add(&a, s.skipped);
     add_pass(&a, lent_pass);
+    return a;
+}
+
+static struct answer of_tally_step(struct jitamoro_step s) {
+    struct answer a = of_step(s);
+    add_tally(&a, lent_tally);
     return a;
 }
 
@@ -409,6 +467,7 @@ static struct answer perform(const struct call *c, const struct lent *l) {
     case NEW_RELAXATION: return of_choice(jitamoro_new_relaxation(RECORD(r, l->read, l->len)));
     case APPLY: return of_moved(jitamoro_apply(c->kind, c->inst_offset, l->write, l->len, r->offset, r->addend));
     case PASS_STEP: return of_step(jitamoro_pass_step(lent_pass, RECORD(r, l->write, l->len)));
+    case TALLY_STEP: return of_tally_step(jitamoro_tally_step(lent_pass, lent_tally, RECORD(r, l->write, l->len)));
     case PASS_END: return of_end(jitamoro_pass_end(lent_pass));
     case WRITE_PLT_ENTRY:
         return (struct answer){1, {jitamoro_write_plt_entry(l->write, l->len, c->got_address, c->plt_address)}};
@@ -417,13 +476,15 @@ static struct answer perform(const struct call *c, const struct lent *l) {
     return (struct answer){1, {0}};
 }
 
-/* Calls on the bytes of l->before, whose successors it puts into l->after, and on the call's pass. */
+/* Calls on the bytes of l->before, whose successors it puts into l->after, and on the call's pass and tally. */
 static struct answer call_once(const struct call *c, struct lent *l) {
     memcpy(l->watched, l->before, l->watched_len);
     *lent_pass = c->pass;
+    *lent_tally = c->tally;
     struct answer a = perform(c, l);
     memcpy(l->after, l->watched, l->watched_len);
-    check(memcmp(beside_pass, beside_before, MARGIN) == 0, "a byte beside the pass changed");
+    check(unchanged_beside(&beside_pass), "a byte beside the pass changed");
+    check(unchanged_beside(&beside_tally), "a byte beside the tally changed");
     return a;
 }
 
@@ -586,7 +647,23 @@ static void check_relaxing(struct lent *l, const struct record *r, struct tried 
           "relaxing leaves other bytes than rewriting, or than there were");
 }
 
-/* ---- A pass */
+/* ---- A pass and its tally */
+
+/* A walk between two steps. */
+struct walked {
+    struct jitamoro_pass pass;
+    struct jitamoro_tally tally;
+};
+
+static struct walked fresh(void) {
+    struct walked w = {jitamoro_pass_fresh(), jitamoro_tally_fresh()};
+    struct answer words = {0, {0}}, zeros = {4 + JITAMORO_TALLY_LENGTH, {0}};
+    run.calls += 2;
+    add_pass(&words, &w.pass);
+    add_tally(&words, &w.tally);
+    check(same(&words, &zeros), "a fresh pass isn't 4 zeros, or a fresh tally 22");
+    return w;
+}
 
 /* Refusals 21, 1 to 4, 22, or 0. */
 static unsigned refusal_of_step(const struct jitamoro_pass *p, const struct record *r, size_t len) {
@@ -615,19 +692,38 @@ static bool take(struct jitamoro_pass *p, uint64_t offset, const struct tried *t
     return true;
 }
 
-/* One step from a pass; what was relaxed is what relaxing gave. Answers the pass then. */
-static struct jitamoro_pass check_step(struct lent *l, const struct record *r, struct jitamoro_pass pass,
-                                       const struct tried *t) {
-    struct call c = {.function = PASS_STEP, .record = *r, .pass = pass};
+static void add_to_figure(struct jitamoro_tally *t, uint64_t figure, uint64_t more) {
+    t->figures[figure] += more;
+    run.raised[figure] += more != 0;
+    run.wrapped[figure == JITAMORO_TALLY_BYTES ? WRAPPED_BYTES : WRAPPED_COUNT] += t->figures[figure] < more;
+}
+
+/* The tally after a step with this answer. */
+static void count(struct jitamoro_tally *t, const struct answer *a) {
+    if (a->field[REFUSAL] != 0) {
+        return;
+    }
+    if (a->field[CHOSEN] != 0) {
+        const struct shape *s = shape_of(a->field[KIND], a->field[INST_OFFSET]);
+        add_to_figure(t, a->field[KIND], 1);
+        add_to_figure(t, JITAMORO_TALLY_BYTES, (uint64_t)(s->end - s->begin));
+    } else {
+        add_to_figure(t, a->field[SKIPPED] != 0 ? JITAMORO_TALLY_SKIPPED : JITAMORO_TALLY_NONE, 1);
+    }
+}
+
+/* One step from a pass; what was relaxed is what relaxing gave. Then the same with a tally. Answers both then. */
+static struct walked check_step(struct lent *l, const struct record *r, struct walked w, const struct tried *t) {
+    struct call c = {.function = PASS_STEP, .record = *r, .pass = w.pass, .tally = w.tally};
     struct answer a = call(&c, l);
-    struct answer expected = {10, {refusal_of_step(&pass, r, l->len)}};
+    struct answer expected = {10, {refusal_of_step(&w.pass, r, l->len)}};
     const uint8_t *bytes = l->before;
-    bool skipped = expected.field[REFUSAL] == 0 && pass.pending != 0;
+    bool skipped = expected.field[REFUSAL] == 0 && w.pass.pending != 0;
     if (skipped) {
-        pass.pending = 0;
-        pass.last = r->offset;
+        w.pass.pending = 0;
+        w.pass.last = r->offset;
     } else if (expected.field[REFUSAL] == 0) {
-        if (take(&pass, r->offset, t)) {
+        if (take(&w.pass, r->offset, t)) {
             expected = t->relaxed;
             bytes = t->bytes;
         } else {
@@ -635,10 +731,16 @@ static struct jitamoro_pass check_step(struct lent *l, const struct record *r, s
         }
     }
     add(&expected, skipped);
-    add_pass(&expected, &pass);
+    add_pass(&expected, &w.pass);
     check(same(&a, &expected), "a step: wrong refusal, answer or pass");
     check(memcmp(l->after, bytes, l->watched_len) == 0, "a step leaves other bytes than relaxing, or than there were");
-    return pass;
+    c.function = TALLY_STEP;
+    a = call(&c, l);
+    count(&w.tally, &expected);
+    add_tally(&expected, &w.tally);
+    check(same(&a, &expected), "a step with a tally: another answer or pass than without, or wrong figures");
+    check(memcmp(l->after, bytes, l->watched_len) == 0, "a step with a tally leaves other bytes than without");
+    return w;
 }
 
 static void check_end(struct lent *l, struct jitamoro_pass pass) {
@@ -650,27 +752,23 @@ static void check_end(struct lent *l, struct jitamoro_pass pass) {
     check(same(&a, &expected), "an end: wrong refusal or pass");
 }
 
-/* One record by every function; answers the pass after it, and l->after are the bytes. */
-static struct jitamoro_pass check_record(struct lent *l, const struct record *r, struct jitamoro_pass pass) {
+/* One record by every function; answers pass and tally after it, and l->after are the bytes. */
+static struct walked check_record(struct lent *l, const struct record *r, struct walked w) {
     static struct tried t;
     check_relaxing(l, r, &t);
     check_rewriting(l, r, any_byte(KINDS, 4), any_byte(8, 3));
-    struct jitamoro_pass any = any_pass(r->offset);
-    check_end(l, any);
-    check_end(l, check_step(l, r, any, &t));
-    return check_step(l, r, pass, &t);
+    struct walked any = {any_pass(r->offset), any_tally()};
+    check_end(l, any.pass);
+    check_end(l, check_step(l, r, any, &t).pass);
+    return check_step(l, r, w, &t);
 }
 
 /* A few records in one section, each on the bytes that the one before left. */
 static void walk(struct lent *l) {
-    struct answer fresh = {0, {0}}, zeros = {4, {0}};
-    struct jitamoro_pass pass = jitamoro_pass_fresh();
-    run.calls++;
-    add_pass(&fresh, &pass);
-    check(same(&fresh, &zeros), "a fresh pass isn't four zeros");
+    struct walked w = fresh();
     for (uint64_t left = 1 + below(4); left != 0; left--) {
         struct record r = any_record_in(l);
-        pass = check_record(l, &r, pass);
+        w = check_record(l, &r, w);
         memcpy(l->before, l->after, l->watched_len);
     }
 }
@@ -795,7 +893,7 @@ static void check_too_long(void) {
     l.watched = l.before;
     l.len = lengths[below(count)];
     struct record r = any_record(l.len);
-    check_record(&l, &r, jitamoro_pass_fresh());
+    check_record(&l, &r, fresh());
     run.call = NULL;
 }
 
@@ -817,7 +915,7 @@ static void check_longest(void) {
     r.r_type = s->r_type;
     r.offset = l.first == 0 ? below(8) : l.len - below(24);
     put_sequence(&l, s, r.offset);
-    check_record(&l, &r, jitamoro_pass_fresh());
+    check_record(&l, &r, fresh());
     run.call = NULL;
 }
 
@@ -834,7 +932,7 @@ static void tour(void) {
         r.output_kind = output_kinds[rest / COUNT(flags)];
         struct lent *l = lend(s->before_len + s->after_len + below(3));
         put_sequence(l, s, r.offset);
-        check_record(l, &r, jitamoro_pass_fresh());
+        check_record(l, &r, fresh());
         release(l);
     }
 }
@@ -868,13 +966,19 @@ static size_t seen(const char *what, const uint64_t *tally, const uint8_t *numbe
 static int summary(double seconds) {
     static const uint8_t refusals[] = {1, 2, 3, 4, 5, 6, 7, 8, 9, 21, 22, 23, 24};
     static const uint8_t kinds[] = {4, 0, 1, 2, 3, 5, 6, 7, 8, 9, 10, 11, 12, 13, 14, 15, 16, 17, 18};
+    static const uint8_t figures[] = {JITAMORO_TALLY_NONE, JITAMORO_TALLY_SKIPPED, JITAMORO_TALLY_BYTES};
+    static const uint8_t wraps[] = {WRAPPED_COUNT, WRAPPED_BYTES};
     /* Kind 4 is never chosen. */
     size_t relaxed = seen("relaxing, kind", run.relaxed, kinds + 1, COUNT(kinds) - 1);
     size_t rewritten = seen("rewriting, kind", run.rewritten, kinds, COUNT(kinds));
     size_t refused = seen("refusal", run.refused, refusals, COUNT(refusals));
-    printf("%" PRIu64 " calls in %.1f s; %zu kinds relaxed, %zu rewritten, %zu refusals\n", run.calls, seconds, relaxed,
-           rewritten, refused);
-    return relaxed == COUNT(kinds) - 1 && rewritten == COUNT(kinds) && refused == COUNT(refusals) ? 0 : 1;
+    size_t raised = seen("a tally, kind", run.raised, kinds + 1, COUNT(kinds) - 1);
+    raised += seen("a tally, figure", run.raised, figures, COUNT(figures));
+    size_t wrapped = seen("a figure's wrap, 0 of records or 1 of bytes:", run.wrapped, wraps, COUNT(wraps));
+    printf("%" PRIu64 " calls in %.1f s; %zu kinds relaxed, %zu rewritten, %zu refusals, %zu figures\n", run.calls,
+           seconds, relaxed, rewritten, refused, raised);
+    bool all = relaxed == COUNT(kinds) - 1 && rewritten == COUNT(kinds) && refused == COUNT(refusals);
+    return all && raised == COUNT(kinds) - 1 + COUNT(figures) && wrapped == COUNT(wraps) ? 0 : 1;
 }
 
 static double now(void) {
@@ -900,7 +1004,8 @@ int main(int argc, char **argv) {
     sigaction(SIGSEGV, &action, NULL);
     sigaction(SIGBUS, &action, NULL);
     make_arena();
-    place_pass();
+    lent_pass = place(sizeof *lent_pass, &beside_pass);
+    lent_tally = place(sizeof *lent_tally, &beside_tally);
     tour();
     do {
         for (int i = 0; i < 128; i++) {

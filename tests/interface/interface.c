@@ -1,7 +1,7 @@
 /*
- * What C sees of the library, by document 01 alone: the version, every word of a pass after a step, records held in
- * place, the texts of numbers, the order of the refusals, with the longest section and one byte more, and the ends of
- * the ranges.
+ * What C sees of the library, by document 01 alone: the version, every word of a pass and every figure of a tally after
+ * a step, records held in place, the texts of numbers, the order of the refusals, with the longest section and one byte
+ * more, and the ends of the ranges.
  */
 #define _DEFAULT_SOURCE
 #include <jitamoro.h>
@@ -20,6 +20,7 @@ static void expect(int line, const char *what, uint64_t got, uint64_t wanted) {
 }
 
 #define EXPECT(what, wanted) expect(__LINE__, #what, (uint64_t)(what), (uint64_t)(wanted))
+#define COUNT(array) (sizeof(array) / sizeof((array)[0]))
 
 /* ---- The version */
 
@@ -84,7 +85,7 @@ static void pass_words(void) {
 static void any_words(void) {
     static const uint64_t yes[] = {1, 7, 255, 256, 1ull << 32, 1ull << 63, UINT64_MAX};
     uint8_t section[32] = {0};
-    for (size_t i = 0; i < sizeof yes / sizeof yes[0]; i++) {
+    for (size_t i = 0; i < COUNT(yes); i++) {
         struct jitamoro_pass pass = {3, 1ull << 40, yes[i], 0};
         EXPECT(jitamoro_pass_end(&pass), JITAMORO_REFUSED_SKIP_PENDING);
         EXPECT_PASS(3, 1ull << 40, yes[i], 0);
@@ -97,6 +98,132 @@ static void any_words(void) {
         EXPECT(step(&pass, 1, 5, section, sizeof section).relaxed.choice.refusal, JITAMORO_REFUSED_PASS_ENDED);
         EXPECT(jitamoro_pass_end(&pass), JITAMORO_REFUSED_PASS_ENDED);
         EXPECT_PASS(7, 9, 0, yes[i]);
+    }
+}
+
+/* ---- A tally's figures */
+
+static void expect_tally(int line, const struct jitamoro_tally *tally, const struct jitamoro_tally *wanted) {
+    for (uint8_t i = 0; i < JITAMORO_TALLY_LENGTH; i++) {
+        expect(line, jitamoro_tally_name(i), tally->figures[i], wanted->figures[i]);
+    }
+}
+
+#define EXPECT_TALLY() expect_tally(__LINE__, tally, &wanted)
+
+/* What tallies begin with: 0 and 2^64 - 1 throughout, and words of which no two are equal. */
+enum { STARTS = 3 };
+
+static struct jitamoro_tally start_of(int number) {
+    struct jitamoro_tally tally = jitamoro_tally_fresh();
+    for (uint64_t i = 0; i < JITAMORO_TALLY_LENGTH; i++) {
+        EXPECT(tally.figures[i], 0);
+        tally.figures[i] = number == 0 ? 0 : number == 1 ? UINT64_MAX : -i - (i << 40);
+    }
+    return tally;
+}
+
+/* A record, and what its step must do: be refused, or add 1 to a figure and the window's length to the bytes. */
+struct counted {
+    uint8_t r_type, flags, offset, refusal, figure, window;
+};
+
+static struct jitamoro_step tally_step(struct jitamoro_pass *pass, struct jitamoro_tally *tally,
+                                       const struct counted *c, uint8_t *section, size_t len) {
+    return jitamoro_tally_step(pass, tally, c->r_type, section, len, c->offset, c->flags, JITAMORO_OUTPUT_STATIC_FIXED,
+                               true, 0x401000, -4);
+}
+
+/* A step; then the end is asked, which changes no figure, and if it is granted a step more. */
+static void count(struct jitamoro_pass *pass, struct jitamoro_tally *tally, const struct counted *c, uint8_t *section,
+                  size_t len) {
+    struct jitamoro_tally wanted = *tally;
+    wanted.figures[c->figure] += c->refusal == 0;
+    wanted.figures[JITAMORO_TALLY_BYTES] += c->window;
+    EXPECT(tally_step(pass, tally, c, section, len).relaxed.choice.refusal, c->refusal);
+    EXPECT_TALLY();
+    struct jitamoro_pass ending = *pass;
+    EXPECT(jitamoro_pass_end(&ending), pass->pending != 0 ? JITAMORO_REFUSED_SKIP_PENDING : 0);
+    EXPECT_TALLY();
+    if (ending.ended != 0) {
+        struct jitamoro_step s = tally_step(&ending, tally, c, section, len);
+        EXPECT(s.relaxed.choice.refusal, JITAMORO_REFUSED_PASS_ENDED);
+        EXPECT_TALLY();
+    }
+}
+
+/* A step of every outcome. */
+static void tally_walk(int start) {
+    static const struct counted steps[] = {
+        {JITAMORO_R_X86_64_64, 1, 0, 0, JITAMORO_TALLY_NONE, 0},
+        {JITAMORO_R_X86_64_TLSGD, 1, 4, 0, JITAMORO_TALLY_TLS_GD_TO_LOCAL_EXEC, 12},
+        {JITAMORO_R_X86_64_PLT32, 1, 3, JITAMORO_REFUSED_ORDER, 0, 0},
+        {JITAMORO_R_X86_64_PLT32, 16, 12, JITAMORO_REFUSED_FLAGS, 0, 0},
+        {JITAMORO_R_X86_64_PLT32, 1, 12, 0, JITAMORO_TALLY_SKIPPED, 0},
+        {JITAMORO_R_X86_64_PLT32, 1, 12, 0, JITAMORO_TALLY_NO_OP, 0},
+        {JITAMORO_R_X86_64_TLSDESC_CALL, 1, 16, 0, JITAMORO_TALLY_SKIP_TLS_DESC_CALL, 2}, /* FF 10 */
+        {JITAMORO_R_X86_64_TLSDESC_CALL, 1, 17, JITAMORO_REFUSED_OVERLAP, 0, 0},
+        {JITAMORO_R_X86_64_TLSDESC_CALL, 1, 18, 0, JITAMORO_TALLY_SKIP_TLS_DESC_CALL, 2}, /* 66 90, as it was */
+        {JITAMORO_R_X86_64_TLSDESC_CALL, 1, 20, JITAMORO_REFUSED_WINDOW, 0, 0},
+        {JITAMORO_R_X86_64_64, 1, 22, JITAMORO_REFUSED_OFFSET, 0, 0},
+        {JITAMORO_R_X86_64_64, 1, 21, 0, JITAMORO_TALLY_NONE, 0},
+    };
+    uint8_t section[21] = {0x66, 0x48, 0x8d, 0x3d, 0, 0, 0,    0,    0x66, 0x66,
+                           0x48, 0xe8, 0,    0,    0, 0, 0xff, 0x10, 0x66, 0x90};
+    struct jitamoro_pass pass = jitamoro_pass_fresh();
+    struct jitamoro_tally tally = start_of(start);
+    for (size_t i = 0; i < COUNT(steps); i++) {
+        count(&pass, &tally, &steps[i], section, sizeof section);
+    }
+    EXPECT_PASS(21, 20, 0, 0);
+    EXPECT(section[18] << 8 | section[19], 0x6690);
+}
+
+#define GD "\x66\x48\x8d\x3d\0\0\0\0\x66\x66\x48\xe8"
+#define LARGE "\x48\x8d\x3d\0\0\0\0\x48\xb8\0\0\0\0\0\0\0\0\x48\x01\xd8\xff\xd0"
+#define LD "\x48\x8d\x3d\0\0\0\0"
+#define KIND(kind, window, type, flags, offset, bytes) {{type, flags, offset, 0, JITAMORO_TALLY_##kind, window}, bytes}
+
+/* Each kind that can be chosen, by the first record of a walk. */
+static void tally_kinds(int start) {
+    static const struct {
+        struct counted counted;
+        char bytes[32];
+    } rows[] = {
+        KIND(MOV_INDIRECT_TO_LEA, 1, 9, 1, 3, "\x48\x8b\x2d"),
+        KIND(MOV_INDIRECT_TO_ABSOLUTE, 2, 41, 1, 2, "\x8b\x2d"),
+        KIND(REX_MOV_INDIRECT_TO_ABSOLUTE, 3, 42, 1, 3, "\x48\x8b\x2d"),
+        KIND(REX_MOV_INDIRECT_TO_ABSOLUTE, 3, 44, 1, 4, "\xd5\x48\x8b\x2d"),
+        KIND(REX_ADD_INDIRECT_TO_ABSOLUTE, 3, 22, 1, 3, "\x48\x03\x2d"),
+        KIND(REX_ADD_INDIRECT_TO_ABSOLUTE, 5, 50, 1, 6, "\x62\x74\xfc\x10\x03\x25"),
+        KIND(REX_SUB_INDIRECT_TO_ABSOLUTE, 3, 42, 1, 3, "\x48\x2b\x2d"),
+        KIND(REX_CMP_INDIRECT_TO_ABSOLUTE, 3, 42, 1, 3, "\x48\x3b\x2d"),
+        KIND(CALL_INDIRECT_TO_RELATIVE, 2, 41, 1, 2, "\xff\x15"),
+        KIND(JMP_INDIRECT_TO_RELATIVE, 6, 41, 1, 2, "\xff\x25"),
+        KIND(NO_OP, 0, 31, 1, 0, ""),
+        KIND(TLS_GD_TO_LOCAL_EXEC, 12, 19, 1, 4, GD),
+        KIND(TLS_GD_TO_LOCAL_EXEC_LARGE, 22, 19, 1, 3, LARGE),
+        KIND(TLS_LD_TO_LOCAL_EXEC, 12, 20, 0, 3, LD "\xe8"),
+        KIND(TLS_LD_TO_LOCAL_EXEC_NO_PLT, 13, 20, 0, 3, LD "\xff\x15"),
+        KIND(TLS_LD_TO_LOCAL_EXEC_64, 22, 20, 0, 3, LARGE),
+        KIND(TLS_GD_TO_INITIAL_EXEC, 12, 19, 0, 4, GD),
+        KIND(TLS_DESC_TO_LOCAL_EXEC, 3, 34, 1, 3, "\x48\x8d\x05"),
+        KIND(TLS_DESC_TO_INITIAL_EXEC, 1, 34, 0, 3, "\x48\x8d\x05"),
+        KIND(SKIP_TLS_DESC_CALL, 2, 35, 0, 0, "\xff\x10"),
+    };
+    for (size_t i = 0; i < COUNT(rows); i++) {
+        uint8_t section[sizeof rows[i].bytes];
+        memcpy(section, rows[i].bytes, sizeof section);
+        struct jitamoro_pass pass = jitamoro_pass_fresh();
+        struct jitamoro_tally tally = start_of(start);
+        count(&pass, &tally, &rows[i].counted, section, sizeof section);
+    }
+}
+
+static void tallies(void) {
+    for (int start = 0; start < STARTS; start++) {
+        tally_walk(start);
+        tally_kinds(start);
     }
 }
 
@@ -153,17 +280,76 @@ static void records(void) {
     EXPECT_PASS(12, 12, 0, 0);
 }
 
+/* The same with a tally: relaxed, skipped, none, refused. */
+static void tally_records(void) {
+    static const uint8_t bytes[32] = {0x66, 0x48, 0x8d, 0x3d, 0, 0, 0, 0, 0x66, 0x66, 0x48, 0xe8};
+    struct jitamoro_pass pass = jitamoro_pass_fresh();
+    struct jitamoro_tally of_walk = start_of(2), wanted = of_walk, *tally = &of_walk;
+    uint8_t section[sizeof bytes];
+    memcpy(section, bytes, sizeof section);
+    struct jitamoro_record record = load_at(4, -4);
+    record.r_type = JITAMORO_R_X86_64_TLSGD;
+    EXPECT(jitamoro_tally_step_record(&pass, tally, &record, section, sizeof section).relaxed.choice.chosen, true);
+    EXPECT_RECORD(23, 12, 0);
+    wanted.figures[JITAMORO_TALLY_TLS_GD_TO_LOCAL_EXEC]++;
+    wanted.figures[JITAMORO_TALLY_BYTES] += 12;
+    EXPECT_TALLY();
+    EXPECT(section[0], 0x64);
+    record = load_at(12, -4);
+    EXPECT(jitamoro_tally_step_record(&pass, tally, &record, section, sizeof section).skipped, true);
+    EXPECT_RECORD(JITAMORO_R_X86_64_NONE, 12, -4);
+    wanted.figures[JITAMORO_TALLY_SKIPPED]++;
+    EXPECT_TALLY();
+    record = load_at(19, -3);
+    EXPECT(jitamoro_tally_step_record(&pass, tally, &record, section, sizeof section).relaxed.choice.chosen, false);
+    EXPECT_RECORD(42, 19, -3);
+    wanted.figures[JITAMORO_TALLY_NONE]++;
+    EXPECT_TALLY();
+    record = load_at(3, -4);
+    struct jitamoro_step s = jitamoro_tally_step_record(&pass, tally, &record, section, sizeof section);
+    EXPECT(s.relaxed.choice.refusal, JITAMORO_REFUSED_ORDER);
+    EXPECT_RECORD(42, 3, -4);
+    EXPECT_TALLY();
+    EXPECT_PASS(19, 12, 0, 0);
+}
+
 /* ---- Texts: each number has one, and those of the kinds differ */
+
+/* The kinds' rows of the figures are the kinds' own: name, number and text. Three more follow. */
+static void figures(void) {
+#define ROW(name, number, text) {#name, number, text},
+    static const struct {
+        const char *name;
+        uint64_t number;
+        const char *text;
+    } kinds[] = {JITAMORO_KINDS(ROW)}, rows[] = {JITAMORO_TALLY_FIGURES(ROW)};
+    EXPECT(COUNT(rows), JITAMORO_TALLY_LENGTH);
+    EXPECT(COUNT(kinds), JITAMORO_TALLY_NONE);
+    for (size_t i = 0; i < COUNT(rows); i++) {
+        EXPECT(rows[i].number, i);
+        EXPECT(strcmp(rows[i].text, jitamoro_tally_name((uint8_t)i)), 0);
+        if (i < COUNT(kinds)) {
+            EXPECT(rows[i].number, kinds[i].number);
+            EXPECT(strcmp(rows[i].name + strlen("JITAMORO_TALLY_"), kinds[i].name + strlen("JITAMORO_KIND_")), 0);
+            EXPECT(strcmp(rows[i].text, jitamoro_kind_name((uint8_t)i)), 0);
+        }
+    }
+    EXPECT(JITAMORO_TALLY_LENGTH, 22);
+    EXPECT(strcmp(jitamoro_tally_name(JITAMORO_TALLY_NONE), "none"), 0);
+    EXPECT(strcmp(jitamoro_tally_name(JITAMORO_TALLY_SKIPPED), "skipped"), 0);
+    EXPECT(strcmp(jitamoro_tally_name(JITAMORO_TALLY_BYTES), "bytes in rewritten windows"), 0);
+}
 
 static void texts(void) {
     EXPECT(strcmp(jitamoro_refusal_text(6), "the bytes to rewrite don't lie wholly in the section"), 0);
     EXPECT(strcmp(jitamoro_kind_name(14), "TlsLdToLocalExec64"), 0);
     EXPECT(strcmp(jitamoro_r_type_name(42), "R_X86_64_REX_GOTPCRELX"), 0);
     EXPECT(strcmp(jitamoro_output_name(3), "dynamic position-independent"), 0);
-    unsigned refusals = 0, kinds = 0, types = 0, outputs = 0;
+    unsigned refusals = 0, kinds = 0, tallied = 0, types = 0, outputs = 0;
     for (unsigned n = 0; n < 256; n++) {
         refusals += strcmp(jitamoro_refusal_text((uint8_t)n), "no such refusal") != 0;
         kinds += strcmp(jitamoro_kind_name((uint8_t)n), "no such kind") != 0;
+        tallied += strcmp(jitamoro_tally_name((uint8_t)n), "no such figure") != 0;
         types += strcmp(jitamoro_r_type_name(n), "no such type") != 0;
         outputs += strcmp(jitamoro_output_name((uint8_t)n), "no such output kind") != 0;
         for (unsigned m = 0; m < n && n <= 18; m++) {
@@ -172,6 +358,7 @@ static void texts(void) {
     }
     EXPECT(refusals, 18);
     EXPECT(kinds, 19);
+    EXPECT(tallied, 22);
     EXPECT(types, 50);
     EXPECT(outputs, 6);
 }
@@ -187,8 +374,22 @@ struct asked {
     uint8_t flags, output_kind, kind, inst_offset;
 };
 
+/* The same step with a tally, of which no figure may change under a refusal. */
+static void tally_refusal(int line, const struct asked *a, int step_) {
+    struct jitamoro_pass pass = a->pass;
+    struct jitamoro_tally tally = start_of(2), wanted = tally;
+    struct jitamoro_step s = jitamoro_tally_step(&pass, &tally, JITAMORO_R_X86_64_TLSDESC_CALL, a->section, a->len,
+                                                 a->offset, a->flags, a->output_kind, true, 0, 0);
+    expect(line, "step with a tally", s.relaxed.choice.refusal, (uint64_t)step_);
+    if (step_ != 0) {
+        expect_pass(line, &pass, a->pass);
+        expect_tally(line, &tally, &wanted);
+    }
+}
+
 /* The refusal of each function: of a step 0 too where the record is skipped. */
 static void refusals(int line, const struct asked *a, int step_, int relax_, int choose_, int apply_) {
+    tally_refusal(line, a, step_);
     struct jitamoro_pass pass = a->pass;
     struct jitamoro_step s = jitamoro_pass_step(&pass, JITAMORO_R_X86_64_TLSDESC_CALL, a->section, a->len, a->offset,
                                                 a->flags, a->output_kind, true, 0, 0);
@@ -301,7 +502,7 @@ static void ranges(void) {
         {23, -2147483648, 2147483648},
         {32, 0, 4294967296},
     };
-    for (size_t i = 0; i < sizeof rows / sizeof rows[0]; i++) {
+    for (size_t i = 0; i < COUNT(rows); i++) {
         struct jitamoro_relocation r = jitamoro_relocation_from_raw(rows[i].r_type);
         EXPECT(r.refusal, 0);
         EXPECT(r.checked, true);
@@ -320,14 +521,18 @@ int main(void) {
     version();
     pass_words();
     any_words();
+    tallies();
     records();
+    tally_records();
     texts();
+    figures();
     order();
     others();
     ranges();
     if (failures != 0) {
         return 1;
     }
-    puts("interface: the version, a pass's words, records, texts, the refusals' order and the ranges are right");
+    puts("interface: the version, a pass's words, a tally's figures, records, texts, the refusals' order and ranges "
+         "are right");
     return 0;
 }

@@ -44,11 +44,11 @@ impl fmt::Display for Record {
     }
 }
 
-/// Calls a function of `sys` with a record's numbers and a section.
+/// Calls a function of `sys` with what else is lent, a record's numbers and a section.
 macro_rules! ask {
-    ($function:path, $record:expr, $section:expr $(, $pass:expr)?) => {
+    ($function:path, $record:expr, $section:expr $(, $lent:expr)*) => {
         $function(
-            $($pass,)?
+            $($lent,)*
             $record.relocation_kind,
             $section,
             $record.offset_in_section,

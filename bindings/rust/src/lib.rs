@@ -16,6 +16,7 @@
 //! | `object::elf::R_X86_64_PC32` and the others | [`elf::R_X86_64_PC32`] .. |
 //! | `x86_64_rel_type_to_string` | [`elf::x86_64_rel_type_to_string`] |
 //! | none | [`Pass`]: the records of a section, one after the other |
+//! | none | [`Tally`]: what a pass did, counted |
 //!
 //! `mov x@GOTPCREL(%rip), %r13` with a known address becomes `mov $x, %r13`:
 //!
@@ -67,6 +68,7 @@ mod refusal;
 mod relocation;
 #[allow(missing_docs, unsafe_code)]
 pub mod sys;
+mod tally;
 mod value_flags;
 mod x86_64;
 
@@ -89,6 +91,7 @@ pub use relocation::PageMask;
 pub use relocation::RelocationKind;
 pub use relocation::RelocationKindInfo;
 pub use relocation::RelocationSize;
+pub use tally::Tally;
 pub use value_flags::ValueFlags;
 pub use x86_64::RelaxationKind;
 pub use x86_64::RelocationModifier;

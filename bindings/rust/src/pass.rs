@@ -1,4 +1,4 @@
-//! The pass over a section's records, which wild doesn't have as a function of its own.
+//! The pass over a section's records, which wild doesn't have as a function of its own, with or without a tally.
 
 use crate::elf_x86_64::Record;
 use crate::elf_x86_64::Relaxed;
@@ -6,6 +6,7 @@ use crate::elf_x86_64::ask;
 use crate::refusal::Refusal;
 use crate::refusal::check;
 use crate::sys;
+use crate::tally::Tally;
 
 /// A walk over a section's records in the order of their offsets.
 ///
@@ -41,6 +42,16 @@ pub enum Step {
     Skipped,
 }
 
+impl Step {
+    fn from_answer(answer: &sys::StepAnswer) -> Result<Self, Refusal> {
+        Ok(match Relaxed::from_answer(&answer.relaxed)? {
+            Some(relaxed) => Self::Relaxed(relaxed),
+            None if answer.skipped => Self::Skipped,
+            None => Self::Nothing,
+        })
+    }
+}
+
 impl Pass {
     /// A pass before its first record.
     #[must_use]
@@ -55,12 +66,22 @@ impl Pass {
     /// [`Refusal::WindowOverlap`]; pass and section are unchanged then.
     #[inline]
     pub fn step(&mut self, record: &Record, section_bytes: &mut [u8]) -> Result<Step, Refusal> {
-        let answer = ask!(sys::pass_step, record, section_bytes, &mut self.0);
-        Ok(match Relaxed::from_answer(&answer.relaxed)? {
-            Some(relaxed) => Step::Relaxed(relaxed),
-            None if answer.skipped => Step::Skipped,
-            None => Step::Nothing,
-        })
+        Step::from_answer(&ask!(sys::pass_step, record, section_bytes, &mut self.0))
+    }
+
+    /// As [`Pass::step`], and the tally counts what the step did.
+    ///
+    /// # Errors
+    /// Those of [`Pass::step`]; the tally is unchanged then too.
+    #[inline]
+    pub fn step_tallied(
+        &mut self,
+        tally: &mut Tally,
+        record: &Record,
+        section_bytes: &mut [u8],
+    ) -> Result<Step, Refusal> {
+        let (pass, tally) = (&mut self.0, &mut tally.0);
+        Step::from_answer(&ask!(sys::tally_step, record, section_bytes, pass, tally))
     }
 
     /// Ends the pass, which takes no more records then.

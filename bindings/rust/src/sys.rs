@@ -90,6 +90,14 @@ pub struct Pass {
     pub ended: u64,
 }
 
+/// What a walk's steps did, held in place beside the pass: records relaxed, by kind (0 to 18), records that nothing
+/// was done for (19), records skipped (20), and the bytes of the relaxed records' windows (21), modulo 2^64.
+#[derive(Debug, Default, Clone, Copy, PartialEq, Eq)]
+#[repr(C)]
+pub struct Tally {
+    pub figures: [u64; 22],
+}
+
 /// What a step did. Refusals 21, 1 to 4, 22, 6, 23, in `relaxed.choice`.
 #[derive(Debug, Default, Clone, Copy, PartialEq, Eq)]
 #[repr(C)]
@@ -132,6 +140,7 @@ layout! {
     MovedAnswer: 24 { refusal: 0, offset: 8, addend: 16 }
     RelaxedAnswer: 32 { choice: 0, offset: 16, addend: 24 }
     Pass: 32 { last: 0, window: 8, pending: 16, ended: 24 }
+    Tally: 176 { figures: 0 }
     StepAnswer: 40 { skipped: 0, relaxed: 8 }
 }
 
@@ -223,6 +232,24 @@ unsafe extern "C" {
 
     /// Answers 0, or refusal 21 or 24.
     pub safe fn jitamoro_pass_end(pass: &mut Pass) -> u8;
+
+    pub safe fn jitamoro_tally_fresh() -> Tally;
+
+    /// # Safety
+    /// `section` is valid for reads and writes of `len` bytes.
+    pub fn jitamoro_tally_step(
+        pass: &mut Pass,
+        tally: &mut Tally,
+        r_type: u32,
+        section: *mut u8,
+        len: usize,
+        offset: u64,
+        flags: u8,
+        output_kind: u8,
+        executable: bool,
+        address: u64,
+        addend: i64,
+    ) -> StepAnswer;
 }
 
 /// Safe wrappers: the slice goes as a pointer, which the method in brackets gives, and a length.
@@ -250,17 +277,17 @@ macro_rules! wrappers {
     )*};
 }
 
-/// Wrappers that take a record's numbers with the section among them, after a pass or alone.
+/// Wrappers that take a record's numbers with the section among them, after what else is lent.
 macro_rules! record_wrappers {
     ($(
         $(#[$meta:meta])*
-        fn $name:ident($($pass:ident: $pass_type:ty,)? [$pointer:ident] $section_type:ty)
+        fn $name:ident($($lent:ident: $lent_type:ty,)* [$pointer:ident] $section_type:ty)
             -> $answer:ty = $function:ident;
     )*) => {
         wrappers! {$(
             $(#[$meta])*
             fn $name(
-                $($pass: $pass_type,)?
+                $($lent: $lent_type,)*
                 r_type: u32,
                 [$pointer] section: $section_type,
                 offset: u64,
@@ -305,4 +332,7 @@ record_wrappers! {
     fn relax([as_mut_ptr] &mut [u8]) -> RelaxedAnswer = jitamoro_relax;
 
     fn pass_step(pass: &mut Pass, [as_mut_ptr] &mut [u8]) -> StepAnswer = jitamoro_pass_step;
+
+    fn tally_step(pass: &mut Pass, tally: &mut Tally, [as_mut_ptr] &mut [u8])
+        -> StepAnswer = jitamoro_tally_step;
 }

@@ -5,6 +5,7 @@ use jitamoro::OutputKind;
 use jitamoro::Refusal;
 use jitamoro::RelaxationKind;
 use jitamoro::RelocationKind;
+use jitamoro::Tally;
 use jitamoro::ValueFlags;
 use jitamoro::elf;
 use std::error::Error;
@@ -110,6 +111,18 @@ fn relaxation_kinds() {
             assert_eq!(kind.to_string(), format!("{kind:?}"));
         }
     }
+}
+
+/// The header's figures are the kinds' rows and three more, and the crate's.
+#[test]
+fn tally_figures() {
+    let rows = table("JITAMORO_TALLY_FIGURES");
+    assert_eq!(rows[..19], table("JITAMORO_KINDS"));
+    let figures = Tally::fresh().figures();
+    let figures: Vec<Row> = (0..).zip(figures.map(|it| it.0.to_owned())).collect();
+    assert_eq!(figures, rows);
+    let length = format!("#define JITAMORO_TALLY_LENGTH {}u", rows.len());
+    assert!(HEADER.lines().any(|line| line == length), "{length}");
 }
 
 #[test]

@@ -118,7 +118,10 @@ impl<'a> Declarations<'a> {
             let (mut body, mut all, mut asserts) = (String::new(), vec![], String::new());
             for &(field, rust) in fields {
                 let kind = c_type(rust, header);
-                all.push(format!("it.{field}"));
+                all.push(match rust.starts_with('[') {
+                    true => format!("{{it.{field}[0]}}"),
+                    false => format!("it.{field}"),
+                });
                 write!(body, " {kind} {field};").unwrap();
                 write!(
                     asserts,
@@ -160,6 +163,10 @@ fn c_type(rust: &str, header: &str) -> String {
         if let Some(target) = rust.strip_prefix(prefix) {
             return format!("{qualifier}{} *", c_type(target, header));
         }
+    }
+    let array = rust.strip_prefix('[').and_then(|it| it.strip_suffix(']'));
+    if let Some((item, length)) = array.and_then(|it| it.split_once("; ")) {
+        return format!("__typeof__({}[{length}])", c_type(item, header));
     }
     match rust {
         "" => "void".to_owned(),
@@ -210,7 +217,7 @@ fn sys_is_the_headers() {
 type Wrong = (&'static str, &'static str, &'static str);
 
 #[rustfmt::skip]
-const WRONG: [Wrong; 17] = [
+const WRONG: [Wrong; 22] = [
     // Another type of an argument, a field, an answer; const and not.
     ("usize, executable: bool", "usize, executable: u8", "jitamoro_fill_section_padding"),
     ("pub chosen: bool", "pub chosen: u8", "type of ChoiceAnswer.chosen"),
@@ -221,6 +228,11 @@ const WRONG: [Wrong; 17] = [
     ("section: *const u8", "section: *mut u8", "jitamoro_new_relaxation"),
     ("plt_entry: *mut u8", "plt_entry: *const u8", "jitamoro_write_plt_entry"),
     ("pass: &mut Pass", "pass: &Pass", "jitamoro_pass_step"),
+    ("tally: &mut Tally", "tally: &Tally", "jitamoro_tally_step"),
+    ("jitamoro_tally_fresh() -> Tally", "jitamoro_tally_fresh() -> Pass", "jitamoro_tally_fresh"),
+    // An array of another length, of another type.
+    ("figures: [u64; 22]", "figures: [u64; 21]", "type of Tally.figures"),
+    ("figures: [u64; 22]", "figures: [i64; 22]", "type of Tally.figures"),
     // Fields swapped, left out, added, where it fits into padding too.
     ("pub kind: u8,\n    pub inst_offset: u8,", "pub inst_offset: u8,\n    pub kind: u8,", "place of ChoiceAnswer"),
     ("    pub needs_got_fallback: bool,\n", "", "new_type"),
@@ -228,6 +240,7 @@ const WRONG: [Wrong; 17] = [
     // Arguments of one type swapped, an argument left out; a function left out, one that isn't there.
     ("flags: u8,\n        output_kind: u8,", "output_kind: u8,\n        flags: u8,", "jitamoro_relax"),
     ("        flags: u8,\n", "", "jitamoro_relax"),
+    ("&mut Pass,\n        tally: &mut Tally,", "&mut Tally,\n        tally: &mut Pass,", "jitamoro_tally_step"),
     ("    pub safe fn jitamoro_pass_fresh() -> Pass;\n", "", "jitamoro_pass_fresh"),
     ("fn jitamoro_next_modifier", "fn jitamoro_next", "jitamoro_next"),
     // A struct laid out by Rust.

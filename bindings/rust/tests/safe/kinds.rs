@@ -15,8 +15,8 @@ const LD: &str = "48 8D 3D 00 00 00 00 E8 00 00 00 00";
 const LD_NO_PLT: &str = "48 8D 3D 00 00 00 00 FF 15 00 00 00 00";
 
 /// Kind; type, section, offset, flags (output kind 0); new type, and whether the next one is skipped.
-type Row = (RelaxationKind, (u32, &'static str, u64, u8), (u32, bool));
-const ROWS: [Row; 20] = [
+pub type Row = (RelaxationKind, (u32, &'static str, u64, u8), (u32, bool));
+pub const ROWS: [Row; 20] = [
     (MovIndirectToLea, (9, "48 8B 2D", 3, 1), (2, false)),
     (MovIndirectToAbsolute, (41, "8B 2D", 2, 1), (10, false)),
     (

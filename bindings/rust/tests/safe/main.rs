@@ -1,5 +1,5 @@
-//! The safe layer against document 01: its worked records, refusals and numbers, and a walk of a pass. Declarations,
-//! numbers and texts against the header; the build script.
+//! The safe layer against document 01: its worked records, refusals and numbers, walks of a pass and their tally.
+//! Declarations, numbers and texts against the header; the build script.
 
 #![forbid(unsafe_code)]
 
@@ -10,6 +10,7 @@ mod kinds;
 mod numbers;
 mod pass;
 mod refusals;
+mod tally;
 mod version;
 mod wild_md;
 mod worked;

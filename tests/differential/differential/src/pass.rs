@@ -1,4 +1,4 @@
-//! Document 01's pass over wild's choosing, rewriting and modifier, answering as the port does.
+//! Document 01's pass over wild's choosing, rewriting and modifier, answering as the port does, and its tally.
 
 use crate::relaxation;
 use crate::relaxation::REX_ADD;
@@ -7,6 +7,7 @@ use jitamoro::sys::ChoiceAnswer;
 use jitamoro::sys::Pass;
 use jitamoro::sys::RelaxedAnswer;
 use jitamoro::sys::StepAnswer;
+use jitamoro::sys::Tally;
 
 /// Where each kind's window begins and ends, from the offset, in the order of the kinds.
 const WINDOWS: [(i64, i64); 19] = [
@@ -31,6 +32,23 @@ const WINDOWS: [(i64, i64); 19] = [
     (0, 2),   // SkipTlsDescCall
 ];
 const REX_ADD_WITH_6: (i64, i64) = (-5, 0);
+
+/// Where a tally's figures stand that are no kind's.
+pub const NONE: usize = 19;
+pub const SKIPPED: usize = 20;
+pub const BYTES: usize = 21;
+
+/// One record, and what it adds to the tally.
+pub fn tally_step(
+    pass: &mut Pass,
+    tally: &mut Tally,
+    record: &Record,
+    section: &mut [u8],
+) -> StepAnswer {
+    let answer = step(pass, record, section);
+    count(tally, &answer);
+    answer
+}
 
 /// One record. The section isn't copied but where the windows overlap.
 pub fn step(pass: &mut Pass, record: &Record, section: &mut [u8]) -> StepAnswer {
@@ -65,6 +83,22 @@ pub fn step(pass: &mut Pass, record: &Record, section: &mut [u8]) -> StepAnswer 
     StepAnswer {
         skipped: false,
         relaxed,
+    }
+}
+
+fn count(tally: &mut Tally, answer: &StepAnswer) {
+    let choice = &answer.relaxed.choice;
+    if choice.refusal != 0 {
+        return;
+    }
+    let (figure, bytes) = match from_offset(choice) {
+        Some((begin, end)) => (usize::from(choice.kind), end - begin),
+        None if answer.skipped => (SKIPPED, 0),
+        None => (NONE, 0),
+    };
+    for (figure, more) in [(figure, 1), (BYTES, bytes)] {
+        let figure = &mut tally.figures[figure];
+        *figure = figure.wrapping_add_signed(more);
     }
 }
 
@@ -105,19 +139,24 @@ fn refused(refusal: u8) -> StepAnswer {
     }
 }
 
-/// The window in the section; none where nothing is chosen or the window is empty.
-fn window(offset: u64, choice: &ChoiceAnswer) -> Option<(i128, i128)> {
-    let (begin, end) = match choice {
-        ChoiceAnswer { chosen: false, .. } => return None,
+/// The window, from the offset; none where nothing is chosen.
+fn from_offset(choice: &ChoiceAnswer) -> Option<(i64, i64)> {
+    match choice {
+        ChoiceAnswer { chosen: false, .. } => None,
         ChoiceAnswer {
             kind: REX_ADD,
             inst_offset: 6,
             ..
-        } => REX_ADD_WITH_6,
-        choice => WINDOWS[usize::from(choice.kind)],
-    };
-    let from_offset = |place| i128::from(offset) + i128::from(place);
-    (begin < end).then(|| (from_offset(begin), from_offset(end)))
+        } => Some(REX_ADD_WITH_6),
+        choice => Some(WINDOWS[usize::from(choice.kind)]),
+    }
+}
+
+/// The window in the section; none where nothing is chosen or the window is empty.
+fn window(offset: u64, choice: &ChoiceAnswer) -> Option<(i128, i128)> {
+    let (begin, end) = from_offset(choice)?;
+    let in_section = |place| i128::from(offset) + i128::from(place);
+    (begin < end).then(|| (in_section(begin), in_section(end)))
 }
 
 #[cfg(test)]
@@ -137,6 +176,49 @@ mod tests {
                 let (before, after) = relaxation::window(kind, inst_offset);
                 let both = (8 - i128::from(before), 8 + i128::from(after));
                 assert_eq!(window(8, &choice), (both.0 < both.1).then_some(both));
+            }
+        }
+    }
+
+    /// A step's answer, as one that was relaxed by a kind.
+    fn relaxed(kind: u8, inst_offset: u8) -> StepAnswer {
+        let mut answer = StepAnswer::default();
+        answer.relaxed.choice = ChoiceAnswer {
+            chosen: true,
+            kind,
+            inst_offset,
+            ..Default::default()
+        };
+        answer
+    }
+
+    #[test]
+    fn what_is_counted() {
+        let skipped = StepAnswer {
+            skipped: true,
+            ..Default::default()
+        };
+        let rows: [(StepAnswer, &[(usize, u64)]); 8] = [
+            (StepAnswer::default(), &[(NONE, 1)]),
+            (skipped, &[(SKIPPED, 1)]),
+            (refused(23), &[]),
+            (relaxed(18, 0), &[(18, 1), (BYTES, 2)]),
+            (relaxed(9, 0), &[(9, 1)]),
+            (relaxed(REX_ADD, 3), &[(3, 1), (BYTES, 3)]),
+            (relaxed(REX_ADD, 6), &[(3, 1), (BYTES, 5)]),
+            (relaxed(11, 0), &[(11, 1), (BYTES, 22)]),
+        ];
+        for start in [0, u64::MAX] {
+            for (answer, added) in &rows {
+                let mut tally = Tally {
+                    figures: [start; 22],
+                };
+                let mut wanted = tally;
+                for &(figure, more) in *added {
+                    wanted.figures[figure] = start.wrapping_add(more);
+                }
+                count(&mut tally, answer);
+                assert_eq!(tally, wanted, "{answer:?}");
             }
         }
     }

@@ -94,11 +94,11 @@ pub fn near(offset: u64, length: usize) -> std::ops::Range<usize> {
     offset.saturating_sub(BEFORE).min(end)..end
 }
 
-/// Calls one of the port's functions on a record and a section; a pass's step takes the pass too.
+/// Calls one of the port's functions on a record, a section, and what else it is lent.
 macro_rules! ask_port {
-    ($function:ident, $record:expr, $section:expr $(, $pass:expr)?) => {
+    ($function:ident, $record:expr, $section:expr $(, $lent:expr)*) => {
         jitamoro::sys::$function(
-            $($pass,)?
+            $($lent,)*
             $record.r_type,
             $section,
             $record.offset,

@@ -9,8 +9,23 @@ use crate::comparison::place;
 use differential::pass;
 use differential::relaxation;
 use jitamoro::sys::Pass;
+use jitamoro::sys::Tally;
 use objects::Linked;
 use objects::Object;
+
+/// A walk over a section.
+#[derive(Clone)]
+struct Walk {
+    pass: Pass,
+    bytes: Vec<u8>,
+}
+
+impl Walk {
+    fn new(linked: &Linked, pass: Pass) -> Self {
+        let bytes = linked.section.bytes.clone();
+        Self { pass, bytes }
+    }
+}
 
 impl Comparison {
     pub fn as_linked(&mut self, objects: &[Object], output_kind: u8) {
@@ -36,38 +51,59 @@ impl Comparison {
             port.copy_from_slice(&before[near.clone()]);
             rust.copy_from_slice(&before[near]);
         }
-        self.compare_bytes("relaxing", linked, &port, before);
+        self.compare_bytes("relaxing", linked, [&port], before);
         assert!(rust == *before, "wild writes near the record alone");
     }
 
+    /// Three passes: the port's with a tally and without one, and the Rust's with one.
     fn pass(&mut self, linked: &Linked) {
-        let mut port = linked.section.bytes.clone();
-        let mut rust = port.clone();
-        let (mut port_pass, mut rust_pass) =
-            (jitamoro::sys::jitamoro_pass_fresh(), Pass::default());
+        let mut port = Walk::new(linked, jitamoro::sys::jitamoro_pass_fresh());
+        let mut plain = port.clone();
+        let mut rust = Walk::new(linked, Pass::default());
+        let mut port_tally = jitamoro::sys::jitamoro_tally_fresh();
+        let mut rust_tally = Tally::default();
         for record in &linked.records {
-            let port_answer = ask_port!(pass_step, record, &mut port, &mut port_pass);
-            let rust_answer = pass::step(&mut rust_pass, record, &mut rust);
-            self.compare((port_answer, port_pass), (rust_answer, rust_pass), || {
-                describe("pass", linked.object, linked.section, record)
-            });
+            let Walk { pass, bytes } = &mut port;
+            let port_answer = ask_port!(tally_step, record, bytes, pass, &mut port_tally);
+            let plain_answer = ask_port!(pass_step, record, &mut plain.bytes, &mut plain.pass);
+            let rust_answer =
+                pass::tally_step(&mut rust.pass, &mut rust_tally, record, &mut rust.bytes);
+            self.compare(
+                [
+                    (port_answer, port.pass, port_tally),
+                    (plain_answer, plain.pass, port_tally),
+                ],
+                [(rust_answer, rust.pass, rust_tally); 2],
+                || describe("pass", linked.object, linked.section, record),
+            );
             self.tally.count_step(record, &rust_answer);
         }
-        self.compare_bytes("pass", linked, &port, &rust);
-        let port_end = jitamoro::sys::jitamoro_pass_end(&mut port_pass);
-        let rust_end = pass::end(&mut rust_pass);
-        self.compare((port_end, port_pass), (rust_end, rust_pass), || {
-            format!(
-                "end of the pass, {}, {}",
-                linked.object, linked.section.name
-            )
-        });
+        self.compare_bytes("pass", linked, [&port.bytes, &plain.bytes], &rust.bytes);
+        let port_end = jitamoro::sys::jitamoro_pass_end(&mut port.pass);
+        let rust_end = pass::end(&mut rust.pass);
+        self.compare(
+            (port_end, port.pass, port_tally),
+            (rust_end, rust.pass, rust_tally),
+            || {
+                format!(
+                    "end of the pass, {}, {}",
+                    linked.object, linked.section.name
+                )
+            },
+        );
         let output_kind = linked.records[0].output_kind;
         self.tally.count_end(output_kind, rust_end);
     }
 
-    /// Whole sections; the first byte that differs is shown.
-    fn compare_bytes(&mut self, what: &str, linked: &Linked, port: &[u8], rust: &[u8]) {
+    /// Whole sections, one or two of the port; the first byte that differs is shown.
+    fn compare_bytes<const N: usize>(
+        &mut self,
+        what: &str,
+        linked: &Linked,
+        port: [&[u8]; N],
+        rust: &[u8],
+    ) {
+        let port = port.into_iter().find(|&port| port != rust).unwrap_or(rust);
         let mut places = if port == rust { 0..0 } else { 0..port.len() };
         let at = places.find(|&at| port[at] != rust[at]);
         self.compare(at.map(|at| port[at]), at.map(|at| rust[at]), || {

@@ -6,6 +6,7 @@ use crate::Comparison;
 use crate::GUARD;
 use crate::pass::Step;
 use crate::pass::port_step;
+use crate::pass::port_tally_step;
 use crate::relaxing;
 use differential::around;
 use differential::pass;
@@ -15,6 +16,7 @@ use differential::relaxation::SECTION_LIMIT;
 use differential::sequences::SEQUENCES;
 use jitamoro::sys::Pass;
 use jitamoro::sys::StepAnswer;
+use jitamoro::sys::Tally;
 use std::fmt::Debug;
 use std::ops::Range;
 
@@ -31,10 +33,10 @@ pub const FLAGS_AND_KINDS: [(u8, u8); 8] = [
     (255, 255),
 ];
 
-/// A step from a fresh pass, and the pass then.
-fn stepped(step: Step, record: &Record, section: &mut [u8]) -> (StepAnswer, Pass) {
-    let mut pass = Pass::default();
-    (step(&mut pass, record, section), pass)
+/// A step from a fresh pass and tally, and both then.
+fn stepped(step: Step, record: &Record, section: &mut [u8]) -> (StepAnswer, Pass, Tally) {
+    let (mut pass, mut tally) = (Pass::default(), Tally::default());
+    (step(&mut pass, &mut tally, record, section), pass, tally)
 }
 
 struct Long {
@@ -131,10 +133,13 @@ impl Comparison {
         self.tally.relaxing.count_choice(&rust.0.choice);
         let port = long.ask(|section| relaxing::port_relax(record, section));
         self.compare_long(long, port, rust, record);
-        let rust = long.ask(|section| stepped(pass::step, record, section));
-        self.tally.pass.count_step(&rust.0.0);
+        let (mut rust, bytes) = long.ask(|section| stepped(pass::tally_step, record, section));
+        self.tally.pass.count_step(&rust.0);
+        let port = long.ask(|section| stepped(port_tally_step, record, section));
+        self.compare_long(long, port, (rust, bytes), record);
+        rust.2 = Tally::default();
         let port = long.ask(|section| stepped(port_step, record, section));
-        self.compare_long(long, port, rust, record);
+        self.compare_long(long, port, (rust, bytes), record);
     }
 
     fn long_rewriting(&mut self, long: &mut Long, offset: u64) {

@@ -1,5 +1,5 @@
 //! The pass: lists of records walked over one section, and single steps from any state. After each
-//! step the answer, the state and the whole section are compared.
+//! step the answer, the state, the tally and the whole section are compared.
 
 use crate::Comparison;
 use crate::GUARD;
@@ -16,6 +16,7 @@ use differential::sequences::SEQUENCES;
 use differential::sequences::Sequence;
 use jitamoro::sys::Pass;
 use jitamoro::sys::StepAnswer;
+use jitamoro::sys::Tally;
 
 const LISTS: u64 = 500_000;
 const SINGLE_STEPS: u64 = 4_000_000;
@@ -23,7 +24,13 @@ const SINGLE_STEPS: u64 = 4_000_000;
 const MOST_RECORDS: u64 = 40;
 const LONGEST: usize = MOST_RECORDS as usize * 32;
 
-pub fn port_step(pass: &mut Pass, record: &Record, section: &mut [u8]) -> StepAnswer {
+/// The port's step; the tally is left alone.
+pub fn port_step(
+    pass: &mut Pass,
+    _: &mut Tally,
+    record: &Record,
+    section: &mut [u8],
+) -> StepAnswer {
     jitamoro::sys::pass_step(
         pass,
         record.r_type,
@@ -37,12 +44,33 @@ pub fn port_step(pass: &mut Pass, record: &Record, section: &mut [u8]) -> StepAn
     )
 }
 
-pub type Step = fn(&mut Pass, &Record, &mut [u8]) -> StepAnswer;
+pub fn port_tally_step(
+    pass: &mut Pass,
+    tally: &mut Tally,
+    record: &Record,
+    section: &mut [u8],
+) -> StepAnswer {
+    jitamoro::sys::tally_step(
+        pass,
+        tally,
+        record.r_type,
+        section,
+        record.offset,
+        record.flags,
+        record.output_kind,
+        record.executable,
+        record.address,
+        record.addend,
+    )
+}
 
-/// A walk over a list: its state, and the section between guard bytes.
+pub type Step = fn(&mut Pass, &mut Tally, &Record, &mut [u8]) -> StepAnswer;
+
+/// A walk over a list: its state, its tally, and the section between guard bytes.
 #[derive(Clone)]
 struct Walk {
     pass: Pass,
+    tally: Tally,
     bytes: Vec<u8>,
     length: usize,
 }
@@ -55,27 +83,64 @@ impl Walk {
     /// A step of either side.
     fn step(&mut self, step: Step, record: &Record) -> StepAnswer {
         let lent = &mut self.bytes[GUARD..GUARD + self.length];
-        step(&mut self.pass, record, lent)
+        step(&mut self.pass, &mut self.tally, record, lent)
+    }
+}
+
+/// The same walk three times: by the port with a tally and without one, and by the Rust.
+struct Walks {
+    port: Walk,
+    plain: Walk,
+    rust: Walk,
+}
+
+impl Walks {
+    fn new(start: Walk) -> Self {
+        Self {
+            port: start.clone(),
+            plain: start.clone(),
+            rust: start,
+        }
     }
 }
 
 // One step or ending.
 impl Comparison {
-    /// Steps on both sides, each from its own state.
-    fn step_both(&mut self, port: &mut Walk, rust: &mut Walk, record: &Record) {
+    /// Steps on all sides, each from its own state.
+    fn step_all(&mut self, walks: &mut Walks, record: &Record) {
+        let Walks { port, plain, rust } = walks;
         let before = rust.clone();
-        let expected = rust.step(pass::step, record);
+        let expected = rust.step(pass::tally_step, record);
         self.tally.pass.count_step(&expected);
+        self.tally.pass.count_figures(&before.tally, &rust.tally);
         if !expected.relaxed.choice.chosen {
             assert_eq!(rust.bytes, before.bytes, "the Rust writes nothing");
         }
-        let answer = (port.step(port_step, record), port.pass, &port.bytes);
-        self.compare(answer, (expected, rust.pass, &rust.bytes), || {
-            format!(
-                "step, {:x?}, {record:x?}, {:x?}",
-                before.pass,
-                before.lent()
-            )
+        let describe = |what| {
+            let Walk { pass, tally, .. } = &before;
+            let section = before.lent();
+            format!("{what}, {pass:x?}, {tally:x?}, {record:x?}, {section:x?}")
+        };
+        let answer = port.step(port_tally_step, record);
+        self.compare(
+            (answer, port.pass, port.tally, &port.bytes),
+            (expected, rust.pass, rust.tally, &rust.bytes),
+            || describe("step with a tally"),
+        );
+        let answer = plain.step(port_step, record);
+        self.compare(
+            (answer, plain.pass, &plain.bytes),
+            (expected, rust.pass, &rust.bytes),
+            || describe("step"),
+        );
+    }
+
+    /// Ends a walk, which changes no figure.
+    fn end_all(&mut self, walks: &mut Walks) {
+        self.end_both(&mut walks.port.pass, &mut walks.rust.pass);
+        walks.plain.pass = walks.port.pass;
+        self.compare(walks.port.tally, walks.rust.tally, || {
+            format!("the tally after an ending, {:x?}", walks.rust.pass)
         });
     }
 
@@ -108,23 +173,28 @@ impl Comparison {
     /// Asks for the end after some records and after the last, and steps on.
     fn walk(&mut self, records: &[Record], start: Walk) {
         let differences = self.differences;
-        let (mut port, mut rust) = (start.clone(), start);
-        port.pass = jitamoro::sys::jitamoro_pass_fresh();
-        self.compare(port.pass, rust.pass, || "a fresh pass".to_string());
+        let mut walks = Walks::new(start);
+        walks.port.pass = jitamoro::sys::jitamoro_pass_fresh();
+        walks.port.tally = jitamoro::sys::jitamoro_tally_fresh();
+        walks.plain.pass = walks.port.pass;
+        let Walks { port, rust, .. } = &walks;
+        self.compare((port.pass, port.tally), (rust.pass, rust.tally), || {
+            "a fresh pass and tally".to_string()
+        });
         for record in records {
-            self.step_both(&mut port, &mut rust, record);
+            self.step_all(&mut walks, record);
             let mut dice = Dice::new(&mut self.random);
             if dice.one_in(24) {
-                self.end_both(&mut port.pass, &mut rust.pass);
+                self.end_all(&mut walks);
             }
             // A walk that differs once goes on differing; one that is ended is soon left.
-            if self.differences != differences || rust.pass.ended != 0 && dice.one_in(3) {
+            if self.differences != differences || walks.rust.pass.ended != 0 && dice.one_in(3) {
                 return;
             }
         }
-        self.end_both(&mut port.pass, &mut rust.pass);
-        self.step_both(&mut port, &mut rust, records.last().unwrap());
-        self.end_both(&mut port.pass, &mut rust.pass);
+        self.end_all(&mut walks);
+        self.step_all(&mut walks, records.last().unwrap());
+        self.end_all(&mut walks);
     }
 
     /// Sequences one after the other, some overlapping; some records stand elsewhere.
@@ -148,15 +218,14 @@ impl Comparison {
         } else {
             end + dice.roll(8) as usize
         };
-        let pass = Pass::default();
-        (
-            records,
-            Walk {
-                pass,
-                bytes,
-                length,
-            },
-        )
+        let (pass, tally) = (Pass::default(), Tally::default());
+        let start = Walk {
+            pass,
+            tally,
+            bytes,
+            length,
+        };
+        (records, start)
     }
 
     /// Writes a sequence where the last one ended, or before; `end` is then this one's end.
@@ -203,13 +272,13 @@ fn elsewhere(last: &Record, dice: &mut Dice) -> Record {
 impl Comparison {
     /// A step and an ending from a state that a walk need not reach.
     fn single_step(&mut self, pass: Pass, record: &Record, section: &Section) {
-        let mut port = Walk {
+        let start = Walk {
             pass,
+            tally: self.random_tally(),
             bytes: section.bytes.to_vec(),
             length: section.length,
         };
-        let mut rust = port.clone();
-        self.step_both(&mut port, &mut rust, record);
+        self.step_all(&mut Walks::new(start), record);
         let (mut port, mut rust) = (pass, pass);
         self.end_both(&mut port, &mut rust);
     }
@@ -237,6 +306,19 @@ impl Comparison {
             section.length = end.min(SHORT as u64) as usize;
         }
         self.single_step(pass, &record, &section);
+    }
+
+    /// Figures little below 2^64, all 2^64 - 1 or anything.
+    fn random_tally(&mut self) -> Tally {
+        let word = self.random.word();
+        let mut figure = |_| match word % 4 {
+            0 => self.random.word(),
+            1 => u64::MAX,
+            _ => u64::MAX - self.random.word() % 24,
+        };
+        Tally {
+            figures: std::array::from_fn(&mut figure),
+        }
     }
 
     /// Mostly a state whose numbers lie about the offset.

@@ -1,9 +1,14 @@
-//! How often each answer of choosing, rewriting, relaxing and the pass was seen.
+//! How often each answer of choosing, rewriting, relaxing and the pass was seen, and each figure of a pass's tally
+//! raised.
 
+use differential::pass::BYTES;
+use differential::pass::NONE;
+use differential::pass::SKIPPED;
 use differential::relaxation;
 use differential::relaxation::KIND_NAMES;
 use differential::relaxation::NO_OP;
 use differential::relaxation::REX_ADD_TO_LEA;
+use jitamoro::sys;
 use jitamoro::sys::ChoiceAnswer;
 use jitamoro::sys::StepAnswer;
 
@@ -27,6 +32,10 @@ pub struct PassAnswers {
     ended: u64,
     /// By refusal.
     refused: [u64; 25],
+    /// How often each figure of a tally was raised; how often one of records, and that of bytes, wrapped.
+    raised: [u64; 22],
+    wrapped_count: u64,
+    wrapped_bytes: u64,
 }
 
 #[derive(Default)]
@@ -79,9 +88,21 @@ impl PassAnswers {
         }
     }
 
+    /// What a step added to a tally.
+    pub fn count_figures(&mut self, before: &sys::Tally, after: &sys::Tally) {
+        for (figure, raised) in self.raised.iter_mut().enumerate() {
+            let (before, after) = (before.figures[figure], after.figures[figure]);
+            *raised += u64::from(before != after);
+            let wrapped = match figure {
+                BYTES => &mut self.wrapped_bytes,
+                _ => &mut self.wrapped_count,
+            };
+            *wrapped += u64::from(after < before);
+        }
+    }
+
     /// Prints how often each answer was seen, and says how many never were.
     fn print(&self) -> usize {
-        println!("{:<28}{:>12}", "", "pass");
         let named = [
             ("none", self.none),
             ("relaxed", self.relaxed),
@@ -92,16 +113,36 @@ impl PassAnswers {
         let named = named.map(|(name, count)| (name.to_string(), count));
         let refused = [1, 2, 3, 4, 6, 21, 22, 23, 24];
         let refused = refused.map(|it| (format!("refusal {it}"), self.refused[it]));
-        let mut unseen = 0;
-        for (name, count) in named.into_iter().chain(refused) {
-            println!("{name:<28}{count:>12}");
-            if count == 0 {
-                println!("differential: {name} was never seen");
-                unseen += 1;
-            }
-        }
-        unseen
+        print_rows("pass", named.into_iter().chain(refused)) + self.print_figures()
     }
+
+    /// All figures but that of a kind that is never chosen.
+    fn print_figures(&self) -> usize {
+        let kinds = (0..).zip(KIND_NAMES);
+        let kinds = kinds.filter(|it| it.0 != usize::from(REX_ADD_TO_LEA));
+        let others = [(NONE, "none"), (SKIPPED, "skipped"), (BYTES, "bytes")];
+        let raised = kinds.chain(others);
+        let raised = raised.map(|(figure, name)| (name.to_string(), self.raised[figure]));
+        let wrapped = [
+            ("a count wrapped".to_string(), self.wrapped_count),
+            ("bytes wrapped".to_string(), self.wrapped_bytes),
+        ];
+        print_rows("tally", raised.chain(wrapped))
+    }
+}
+
+/// Prints a column, and says how many of its rows are 0.
+fn print_rows(head: &str, rows: impl Iterator<Item = (String, u64)>) -> usize {
+    println!("{:<28}{head:>12}", "");
+    let mut unseen = 0;
+    for (name, count) in rows {
+        println!("{name:<28}{count:>12}");
+        if count == 0 {
+            println!("differential: {head}: {name} was never seen");
+            unseen += 1;
+        }
+    }
+    unseen
 }
 
 impl Tally {
