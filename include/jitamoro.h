@@ -32,9 +32,9 @@ extern "C" {
 
 /* ---- The version of this header and its archive, as CHANGELOG.md has it */
 
-#define JITAMORO_VERSION "0.3.0"
+#define JITAMORO_VERSION "0.4.0"
 #define JITAMORO_VERSION_MAJOR 0
-#define JITAMORO_VERSION_MINOR 3
+#define JITAMORO_VERSION_MINOR 4
 #define JITAMORO_VERSION_PATCH 0
 
 /* ---- Limits */
