@@ -77,7 +77,7 @@ module _ (p : Pass) (sec : List ℕ) (r : Relocation) (q : calm p (r .offset) �
 
 -- what a caller learns of an answer that is settled
 module _ (p : Pass) (sec : List ℕ) (r : Relocation) (a : RelaxedAnswer) (e : Settled a ≡ plainOf (calm p (r .offset) && isPlain sec r) (relaxedLayout (relaxedOf (relaxing linkLimit sec r)))) (w : List ℕ) where
-  pub known : ((calm p (r .offset) && isPlain sec r) ≡ true) × (a ≡ relaxedLayout (relaxedOf (relaxing linkLimit sec r)))
+  known : ((calm p (r .offset) && isPlain sec r) ≡ true) × (a ≡ relaxedLayout (relaxedOf (relaxing linkLimit sec r)))
   known = settled _ _ a e
 
   pub settled-step : (record { skipped = 0; relaxed = a } ≡ stepLayout (step p sec r .stepped .step))

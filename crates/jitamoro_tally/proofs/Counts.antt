@@ -18,9 +18,9 @@ use Rattle.pass.specs.Pass.{took}
 use Rattle.pass.specs.Answers.{stepOf, step}
 use Rattle.plain.specs.declared.Plain.the-variants.{Settled}
 use Rattle.plain.specs.Plain.{isPlain, plainOf, chosenBy}
-use Rattle.plain.proofs.Numbers.{outcome, settles}
+use Rattle.plain.proofs.Numbers.{outcome, settles, settled}
 use Rattle.jitamoro_pass.specs.Parts.{calm}
-use Rattle.jitamoro_pass.proofs.Words.{plain-step, known}
+use Rattle.jitamoro_pass.proofs.Words.{plain-step}
 use Rattle.tally.specs.Tally.{noneAt, counted, tallied}
 
 module _ (p : Pass) (sec : List ℕ) (r : Relocation) (a : RelaxedAnswer) (e : Settled a ≡ plainOf (calm p (r .offset) && isPlain sec r) (relaxedLayout (relaxedOf (relaxing linkLimit sec r)))) (t : List ℕ) where
@@ -35,6 +35,6 @@ module _ (p : Pass) (sec : List ℕ) (r : Relocation) (a : RelaxedAnswer) (e : S
   pub counted-plain : counted (cond (not (eqb (a .choice .head) 0)) 9 noneAt) 0 t ≡ tallied t (step p sec r .stepped .step)
   unfolding step
   counted-plain =
-      let k = known p sec r a e t in
+      let k = settled (calm p (r .offset) && isPlain sec r) _ a e in
       let b = both (calm p (r .offset)) (isPlain sec r) (k .0) in
       rw (k .1 ∙ settles sec r (b .1) .0, plain-step p sec r (b .0) (b .1)) (by (b .1) (chosenBy r) (eqb (r .«r_type») 2 || isS (r .«output_kind»)))

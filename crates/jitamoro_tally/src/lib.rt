@@ -6,17 +6,18 @@ ghost use Rattle.rules.specs.Meaning.{SameMeaning};
 ghost use Rattle.pass.specs.Answers.{step};
 ghost use Rattle.jitamoro_pass.specs.Layout.{passOf, wordsAfter, stepLayout};
 ghost use Rattle.tally.specs.Tally.{freshTally, tallied};
+ghost use Rattle.jitamoro_tally.specs.Held.{Held};
 use jitamoro_pass::StepAnswer;
-use pass::Pass;
-use pass::Stepped;
 use plain::Plain;
 use rules::Relocation;
 use tally::Tally;
 
-// The tally of a pass before its first record.
+// The tally of a pass before its first record. The contract also says that a walk by the exported functions is the
+// pass's own, of which `Tallies` and `Walks` speak.
 #[no_mangle]
 pub extern "C" fn jitamoro_tally_fresh() -> Tally
     ensures { λ r. ⌜ r .figures ≡ freshTally ⌝ }
+    ensures { λ _. ⌜ Held ⌝ }
 {
     Tally::fresh()
 }

@@ -1,7 +1,7 @@
 -- What a step does to the figures: at each place its share, wrapping; to the first 21 together a record, or nothing under a refusal.
 -- Assumes nothing.
-use mathlib.Core.Path.{_≡_, refl, sym, ap, subst, _∙_}
-use mathlib.Core.Bool.{Bool, true, false, cond, false≢true}
+use mathlib.Core.Path.{_≡_, refl, sym, subst, _∙_}
+use mathlib.Core.Bool.{Bool, true, false, cond}
 use mathlib.Core.List.{List, [], _∷_}
 use Prim.Native.Nat.{ℕ, zero, suc, _+_, _%_, _^_, _<_, _≤_}
 use native.Mathlib.Nat.{le-refl, le-of-suc-le-suc, not-suc-le-zero}
@@ -9,22 +9,21 @@ use native.Mathlib.Omega.{arith}
 use lib.Dec.{eqb}
 use lib.ListN.{length, getD, set, take, length-set}
 use lib.Seq.{getD-set-same, getD-set-other, take-set-le}
-use borrow.Author.Tests.{eqb-true, eqb-false, ne-eqb}
-use Rattle.rules.specs.Answer.{flag}
+use borrow.Author.Tests.{eqb-true, eqb-false}
 use Rattle.x86_64_kind.specs.declared.RelaxationKind.{RelaxationKind}
 use Rattle.x86_64_kind.specs.declared.RelaxationKind.the-variants as kind
 use Rattle.x86_64_kind.specs.Kinds.{shape, shapeOf}
 use Rattle.pass.specs.declared.Step.{Step}
 use Rattle.pass.specs.declared.Step.the-variants.{Nothing, Done, Skipped, Refused}
-use Rattle.tally.specs.Tally.{plus, counted, tallied, sum, share, accepted}
+use Rattle.tally.specs.Tally.{plus, counted, tallied, sum, shared, share, accepted}
 
 -- the kinds' numbers are those of the first figures
-low : (k : RelaxationKind) → shapeOf k .number < 19
+pub low : (k : RelaxationKind) → shapeOf k .number < 21
 low kind.MovIndirectToLea = omega arith
 low kind.MovIndirectToAbsolute = omega arith
 low (kind.RexMovIndirectToAbsolute n) = omega arith
 low (kind.RexAddIndirectToAbsolute n) = by (eqb n 6) where
-  by : (b : Bool) → (cond b (shape 3 n 5 5 5 true) (shape 3 n 3 3 3 true)) .number < 19
+  by : (b : Bool) → (cond b (shape 3 n 5 5 5 true) (shape 3 n 3 3 3 true)) .number < 21
   by true = omega arith
   by false = omega arith
 low (kind.RexAddIndirectToLea n) = omega arith
@@ -43,9 +42,6 @@ low (kind.TlsDescToLocalExec n) = omega arith
 low kind.TlsDescToInitialExec = omega arith
 low kind.SkipTlsDescCall = omega arith
 
-pub among-records : (k : RelaxationKind) (n : ℕ) → n ≡ shapeOf k .number → n < 21
-among-records k n e = let h = low k in omega (arith, h, e)
-
 -- ---- each figure
 
 module _ (t : List ℕ) (i : ℕ) (l : i < length t) (h : getD t i 0 < 2 ^ 64) where
@@ -58,35 +54,19 @@ module _ (t : List ℕ) (i : ℕ) (l : i < length t) (h : getD t i 0 < 2 ^ 64) w
 pub below : (y x : ℕ) → y ≡ x % 2 ^ 64 → y < 2 ^ 64
 below y x e = omega arith
 
--- a record's place isn't that of the bytes
-apart : (x u v n : ℕ) (b k : Bool) → (b ≡ true → k ≡ false) → u ≡ (x + cond k 1 0) % 2 ^ 64 → v ≡ (u + cond b n 0) % 2 ^ 64 → v ≡ (x + cond b n (flag k)) % 2 ^ 64
-apart x u v n true true a e f = absurd (false≢true (sym (a refl)))
-apart x u v n true false a e f = omega arith
-apart x u v n false true a e f = omega arith
-apart x u v n false false a e f = omega arith
+pub wraps : (y x a b : ℕ) → y ≡ (x + a) % 2 ^ 64 → (y + b) % 2 ^ 64 ≡ (x + (a + b)) % 2 ^ 64
+wraps y x a b e = omega arith
 
-elsewhere : (i k : ℕ) → k < 21 → eqb i 21 ≡ true → eqb i k ≡ false
-elsewhere i k low b = ne-eqb i k (λ q. let z = eqb-true i 21 b in omega (arith, z, low, q))
-
-getD-counted : (t : List ℕ) (i : ℕ) → i < length t → getD t i 0 < 2 ^ 64 → (k n : ℕ) → k < 21
-    → getD (counted k n t) i 0 ≡ (getD t i 0 + cond (eqb i 21) n (flag (eqb i k))) % 2 ^ 64
-getD-counted t i l h k n low =
+getD-counted : (t : List ℕ) (i : ℕ) → i < length t → getD t i 0 < 2 ^ 64 → (k n : ℕ) → getD (counted k n t) i 0 ≡ (getD t i 0 + shared k n i) % 2 ^ 64
+getD-counted t i l h k n =
     let e = getD-plus t i l h k 1 in
-    apart _ _ _ n (eqb i 21) (eqb i k) (elsewhere i k low) e
-    (getD-plus (plus k 1 t) i (subst (λ (n : ℕ). i < n) (sym (length-set t k _)) l) (below _ _ e) 21 n)
-
--- a record with no window
-no-bytes : (i k : ℕ) → k < 21 → cond (eqb i 21) 0 (flag (eqb i k)) ≡ flag (eqb i k)
-no-bytes i k low = by (eqb i 21) (elsewhere i k low) where
-  by : (b : Bool) → (b ≡ true → eqb i k ≡ false) → cond b 0 (flag (eqb i k)) ≡ flag (eqb i k)
-  by true e = rw (e refl)
-  by false e = refl
+    getD-plus (plus k 1 t) i (subst (λ (n : ℕ). i < n) (sym (length-set t k _)) l) (below _ _ e) 21 n ∙ wraps _ _ _ _ e
 
 pub getD-tallied : (t : List ℕ) (s : Step) (i : ℕ) → i < length t → getD t i 0 < 2 ^ 64 → getD (tallied t s) i 0 ≡ (getD t i 0 + share s i) % 2 ^ 64
 unfolding tallied share
-getD-tallied t (Done x m) i l h = getD-counted t i l h (shapeOf (x .kind) .number) _ (among-records (x .kind) _ refl)
-getD-tallied t Nothing i l h = rw (← no-bytes i 19 (omega arith)) (getD-counted t i l h 19 0 (omega arith))
-getD-tallied t Skipped i l h = rw (← no-bytes i 20 (omega arith)) (getD-counted t i l h 20 0 (omega arith))
+getD-tallied t (Done x m) i l h = getD-counted t i l h _ _
+getD-tallied t Nothing i l h = getD-counted t i l h _ _
+getD-tallied t Skipped i l h = getD-counted t i l h _ _
 getD-tallied t (Refused n) i l h = omega arith
 
 -- ---- the first 21 together
@@ -106,7 +86,7 @@ sum-counted k n t low l = rw (take-set-le 21 (plus k 1 t) 21 _ (le-refl 21)) (su
 
 pub sum-tallied : (t : List ℕ) (s : Step) → 21 ≤ length t → sum (take 21 (tallied t s)) % 2 ^ 64 ≡ (sum (take 21 t) + accepted s) % 2 ^ 64
 unfolding tallied
-sum-tallied t (Done x m) l = sum-counted (shapeOf (x .kind) .number) _ t (among-records (x .kind) _ refl) l
+sum-tallied t (Done x m) l = sum-counted (shapeOf (x .kind) .number) _ t (low (x .kind)) l
 sum-tallied t Nothing l = sum-counted 19 0 t (omega arith) l
 sum-tallied t Skipped l = sum-counted 20 0 t (omega arith) l
 sum-tallied t (Refused n) l = omega arith

@@ -2,20 +2,17 @@
 -- Assumes nothing.
 use mathlib.Core.Path.{_≡_, refl, sym, ap, subst, _∙_}
 use mathlib.Core.List.{List, [], _∷_, map}
-use Prim.Native.Nat.{ℕ, _+_, _%_, _^_, _<_, _≤_}
+use Prim.Native.Nat.{ℕ, _+_, _%_, _^_, _<_}
 use native.Mathlib.Nat.{zero-add}
 use native.Mathlib.Omega.{arith}
 use lib.ListN.{length, getD, take, getD-replicate}
 use Rattle.rules.specs.declared.Relocation.{Relocation}
 use Rattle.pass.specs.declared.Step.{Step}
 use Rattle.pass.specs.Answers.{stepOf}
-use Rattle.pass.specs.Walk.{Walk, answer, stepped, walk, answers}
-use Rattle.tally.specs.Tally.{freshTally, share, tallied, sum, figure, accepted}
-use Rattle.tally.specs.Walk.{Tallied, fresh, takes, ends, Act, endedWalk, acted, after, steps, Tallies}
-use Rattle.tally.proofs.Figures.{length-tallied, below, getD-tallied, sum-tallied}
-
-wraps : (y x a b : ℕ) → y ≡ (x + a) % 2 ^ 64 → (y + b) % 2 ^ 64 ≡ (x + (a + b)) % 2 ^ 64
-wraps y x a b e = omega arith
+use Rattle.pass.specs.Walk.{answer, walk, answers}
+use Rattle.tally.specs.Tally.{share, tallied, sum, accepted}
+use Rattle.tally.specs.Walk.{Tallied, fresh, takes, ends, Act, acted, after, steps, Tallies}
+use Rattle.tally.proofs.Figures.{length-tallied, below, wraps, getD-tallied, sum-tallied}
 
 goes-on :
     (t : Tallied) (acts : List Act) (i : ℕ) → i < length (t .figures) → getD (t .figures) i 0 < 2 ^ 64

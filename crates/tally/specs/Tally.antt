@@ -50,11 +50,15 @@ abbrev pub sum : List ℕ → ℕ
 sum [] = 0
 sum (x ∷ xs) = x + sum xs
 
--- a step's share of the figure at a place
+-- a record's share of the figure at a place: itself at its own, and its window's bytes
+abbrev pub shared : ℕ → ℕ → ℕ → ℕ
+shared k n i = flag (eqb i k) + cond (eqb i bytesAt) n 0
+
+-- a step's
 unfoldable pub share : Step → ℕ → ℕ
-share (Done x m) i = cond (eqb i bytesAt) (claims (x .kind) (x .«new_type») .size) (flag (eqb i (shapeOf (x .kind) .number)))
-share Nothing i = flag (eqb i noneAt)
-share Skipped i = flag (eqb i skippedAt)
+share (Done x m) i = shared (shapeOf (x .kind) .number) (claims (x .kind) (x .«new_type») .size) i
+share Nothing i = shared noneAt 0 i
+share Skipped i = shared skippedAt 0 i
 share (Refused n) i = 0
 
 -- "every figure is defined from the list of steps taken so far .. modulo 2^64": the sum of their shares

@@ -55,6 +55,7 @@ pub record Tallies : Type 0 where
       → getD (after t acts .figures) i 0 ≡ (getD (t .figures) i 0 + sum (map (λ s. share s i) (steps (t .walk) acts))) % 2 ^ 64
   pub adds-to : (t : Tallied) (acts : List Act) → length (t .figures) ≡ 22
       → sum (take 21 (after t acts .figures)) % 2 ^ 64 ≡ (sum (take 21 (t .figures)) + sum (map accepted (steps (t .walk) acts))) % 2 ^ 64
-  -- the pass goes as it does without a tally, so that all that holds of a walk holds here
+  -- over records alone the pass goes as it does without a tally, so that all that holds of a walk holds here
   pub beside : (t : Tallied) (rs : List Relocation) → (after t (map takes rs) .walk ≡ walk (t .walk) rs) × (steps (t .walk) (map takes rs) ≡ map stepOf (answers (t .walk) rs))
+  -- as many figures
   pub size : (t : Tallied) (acts : List Act) → length (after t acts .figures) ≡ length (t .figures)

@@ -2,6 +2,8 @@
 ghost use mathlib.Core.Path.{_≡_};
 ghost use mathlib.Core.Bool.{cond};
 ghost use Prim.Native.Nat.{_<_};
+ghost use Rattle.x86_64_kind.specs.Kinds.{shapeOf};
+ghost use Rattle.x86_64_kind.specs.declared.RelaxationKind.the-variants.{NoOp};
 ghost use Rattle.tally.specs.Tally.{noneAt, freshTally, counted, tallied};
 ghost use Rattle.tally.specs.Walk.{Tallies};
 ghost use Rattle.tally.specs.Worked.{TallyWorked};
@@ -49,15 +51,15 @@ pub fn count(figures: &mut [u64; 22], step: Step)
     }
 }
 
-// Counts a record that became NoOp or none, with no branch.
+// Counts a record that became NoOp or none; which of them is no branch in the machine code.
 pub fn count_no_op(figures: &mut [u64; 22], chosen: bool)
-    ensures { λ _. ⌜ now (figures .exit) ≡ counted (cond chosen 9 noneAt) 0 (now (figures .entry)) ⌝ }
+    ensures { λ _. ⌜ now (figures .exit) ≡ counted (cond chosen (shapeOf NoOp .number) noneAt) 0 (now (figures .entry)) ⌝ }
 {
     add(figures, no_op_or_none(chosen), 0);
 }
 
 fn no_op_or_none(chosen: bool) -> usize
-    ensures { λ r. ⌜ r ≡ cond chosen 9 noneAt ⌝ }
+    ensures { λ r. ⌜ r ≡ cond chosen (shapeOf NoOp .number) noneAt ⌝ }
     ensures { λ r. ⌜ r < 21 ⌝ }
 {
     if chosen { NO_OP } else { NONE }

@@ -2,7 +2,7 @@
 -- Assumes nothing.
 use borrow.Author.Needs.{needs}
 use Rattle.tally.specs.Tally.{tallied}
-use Rattle.tally.proofs.Figures.{among-records}
+use Rattle.tally.proofs.Figures.{low}
 use Rattle.tally.proofs.count.Statement.{statement}
 use Rattle.tally.proofs.count.Tie as tie
 
@@ -12,7 +12,7 @@ count-spec =
     tie.close
     (tie.spec
     (λ c. search needs) (λ c κs. search needs) (λ c. search needs) (λ c κs. search needs) (λ c κs. search needs) (λ c. search needs)
-    (λ c κs. among-records (c .before .before .before .before .step .given .0 .0 .kind) _ (c .number .ensures)) (λ c. search needs) (λ c κs. search needs) (λ c. search needs)
+    (λ c κs. rw (c .number .ensures) (low (c .before .before .before .before .step .given .0 .0 .kind))) (λ c. search needs) (λ c κs. search needs) (λ c. search needs)
     (λ c. rw (c .before .before .enum-told .given .1) (c .add .ensures))
     (λ c. let n = c .before in
     rw (n .before .before .before .before .step .given .1, ← n .before .before .claim .ensures, ← n .number .ensures) (c .add2 .ensures))
