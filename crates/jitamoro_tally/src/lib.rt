@@ -19,7 +19,7 @@ pub extern "C" fn jitamoro_tally_fresh() -> Tally
     ensures { λ r. ⌜ r .figures ≡ freshTally ⌝ }
     ensures { λ _. ⌜ Held ⌝ }
 {
-    Tally::fresh()
+    Tally { figures: [0; 22] }
 }
 
 // Takes one record as jitamoro_pass_step does, and counts it. A refusal changes no figure.
