@@ -11,6 +11,7 @@ use crate::relaxing::numbers;
 use crate::relaxing::time_choose;
 use crate::relaxing::time_relax;
 use crate::relaxing::types;
+use differential::ask_port;
 use differential::pass::BYTES;
 use differential::pass::NONE;
 use differential::pass::SKIPPED;
@@ -49,24 +50,6 @@ type TakeStep<P, F, K, T> =
 /// A step with a tally, which is `C`.
 type TakeTallyStep<P, C, F, K, T> =
     unsafe extern "C" fn(&mut P, &mut C, u32, *mut u8, usize, u64, F, K, bool, u64, i64) -> T;
-
-/// Calls one of the port's steps with what it is lent, a record and its section.
-macro_rules! port_step {
-    ($function:ident, $input:expr, $section:expr $(, $lent:expr)+) => {{
-        let it = &$input.record;
-        black_box(&sys::$function(
-            $($lent,)+
-            it.r_type,
-            $section,
-            it.offset,
-            it.flags,
-            it.output_kind,
-            it.executable,
-            it.address,
-            it.addend,
-        ));
-    }};
-}
 
 pub fn time_archive(driver: &Driver, path: &str) {
     let path = Path::new(path);
@@ -167,7 +150,7 @@ impl Steps {
                 let mut pass = sys::jitamoro_pass_fresh();
                 for input in inputs {
                     port.push(pass);
-                    port_step!(pass_step, input, section, &mut pass);
+                    black_box(&ask_port!(pass_step, input.record, section, &mut pass));
                 }
             });
         });
@@ -286,7 +269,7 @@ fn port_walk(inputs: &[Input], bytes: &mut [u8]) {
     by_section(inputs, bytes, |inputs, section| {
         let mut pass = sys::jitamoro_pass_fresh();
         for input in inputs {
-            port_step!(pass_step, input, section, &mut pass);
+            black_box(&ask_port!(pass_step, input.record, section, &mut pass));
         }
         black_box(sys::jitamoro_pass_end(&mut pass));
     });
@@ -298,7 +281,13 @@ fn port_tally_walk(inputs: &[Input], bytes: &mut [u8], mut done: impl FnMut(&Tal
         let mut pass = sys::jitamoro_pass_fresh();
         let mut tally = sys::jitamoro_tally_fresh();
         for input in inputs {
-            port_step!(tally_step, input, section, &mut pass, &mut tally);
+            black_box(&ask_port!(
+                tally_step,
+                input.record,
+                section,
+                &mut pass,
+                &mut tally
+            ));
         }
         black_box(sys::jitamoro_pass_end(&mut pass));
         done(&tally);

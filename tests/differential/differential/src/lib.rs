@@ -15,6 +15,26 @@ pub mod pass;
 pub mod relaxation;
 pub mod sequences;
 
+pub use jitamoro::sys;
+
+/// Calls one of the port's functions on a record, a section, and what else it is lent.
+#[macro_export]
+macro_rules! ask_port {
+    ($function:ident, $record:expr, $section:expr $(, $lent:expr)*) => {
+        $crate::sys::$function(
+            $($lent,)*
+            $record.r_type,
+            $section,
+            $record.offset,
+            $record.flags,
+            $record.output_kind,
+            $record.executable,
+            $record.address,
+            $record.addend,
+        )
+    };
+}
+
 /// The types that document 01 says the lookup knows.
 pub const KNOWN_TYPES: [u32; 39] = [
     0, 1, 2, 3, 4, 9, 10, 11, 12, 13, 14, 15, 17, 19, 20, 21, 22, 23, 24, 25, 26, 27, 29, 31, 32,

@@ -94,24 +94,6 @@ pub fn near(offset: u64, length: usize) -> std::ops::Range<usize> {
     offset.saturating_sub(BEFORE).min(end)..end
 }
 
-/// Calls one of the port's functions on a record, a section, and what else it is lent.
-macro_rules! ask_port {
-    ($function:ident, $record:expr, $section:expr $(, $lent:expr)*) => {
-        jitamoro::sys::$function(
-            $($lent,)*
-            $record.r_type,
-            $section,
-            $record.offset,
-            $record.flags,
-            $record.output_kind,
-            $record.executable,
-            $record.address,
-            $record.addend,
-        )
-    };
-}
-pub(crate) use ask_port;
-
 /// Does every job, on all cores; the outcomes are added up in the order of the jobs.
 pub fn in_parallel<Job: Sync>(
     jobs: &[Job],

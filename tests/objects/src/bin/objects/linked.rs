@@ -2,10 +2,10 @@
 
 use crate::comparison::Comparison;
 use crate::comparison::Hex;
-use crate::comparison::ask_port;
 use crate::comparison::describe;
 use crate::comparison::near;
 use crate::comparison::place;
+use differential::ask_port;
 use differential::pass;
 use differential::relaxation;
 use jitamoro::sys::Pass;

@@ -8,6 +8,7 @@ use crate::relaxing::OFFSET;
 use crate::relaxing::SHORT;
 use crate::relaxing::Section;
 use crate::relaxing::WHOLE;
+use differential::ask_port;
 use differential::at_random;
 use differential::at_random::Dice;
 use differential::pass;
@@ -31,17 +32,7 @@ pub fn port_step(
     record: &Record,
     section: &mut [u8],
 ) -> StepAnswer {
-    jitamoro::sys::pass_step(
-        pass,
-        record.r_type,
-        section,
-        record.offset,
-        record.flags,
-        record.output_kind,
-        record.executable,
-        record.address,
-        record.addend,
-    )
+    ask_port!(pass_step, record, section, pass)
 }
 
 pub fn port_tally_step(
@@ -50,18 +41,7 @@ pub fn port_tally_step(
     record: &Record,
     section: &mut [u8],
 ) -> StepAnswer {
-    jitamoro::sys::tally_step(
-        pass,
-        tally,
-        record.r_type,
-        section,
-        record.offset,
-        record.flags,
-        record.output_kind,
-        record.executable,
-        record.address,
-        record.addend,
-    )
+    ask_port!(tally_step, record, section, pass, tally)
 }
 
 pub type Step = fn(&mut Pass, &mut Tally, &Record, &mut [u8]) -> StepAnswer;

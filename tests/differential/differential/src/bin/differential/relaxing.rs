@@ -4,6 +4,7 @@
 use crate::Comparison;
 use crate::GUARD;
 use differential::around;
+use differential::ask_port;
 use differential::relaxation;
 use differential::relaxation::KIND_NAMES;
 use differential::relaxation::Record;
@@ -40,29 +41,11 @@ impl Section {
 type Ask = fn(&mut Comparison, &Record, &Section);
 
 pub fn port_choose(record: &Record, section: &mut [u8]) -> ChoiceAnswer {
-    jitamoro::sys::new_relaxation(
-        record.r_type,
-        section,
-        record.offset,
-        record.flags,
-        record.output_kind,
-        record.executable,
-        record.address,
-        record.addend,
-    )
+    ask_port!(new_relaxation, record, section)
 }
 
 pub fn port_relax(record: &Record, section: &mut [u8]) -> RelaxedAnswer {
-    jitamoro::sys::relax(
-        record.r_type,
-        section,
-        record.offset,
-        record.flags,
-        record.output_kind,
-        record.executable,
-        record.address,
-        record.addend,
-    )
+    ask_port!(relax, record, section)
 }
 
 // One input.
