@@ -1,8 +1,9 @@
--- What an answer of a step says, walked forward through the step order: the offset hasn't fallen, a relaxed record is as relaxing one record
--- has it, its window lies inside and begins at or after the last window's end.
+-- What an answer of a step says, walked forward through the step order: of an accepted record that the pass hasn't ended, the offset hasn't
+-- fallen, and whether a skip is pending; a relaxed one is as relaxing one record has it, its window lies inside and begins at or after the
+-- last window's end.
 -- Assumes nothing.
-use mathlib.Core.Path.{_≡_, refl, sym, subst}
-use mathlib.Core.Bool.{Bool, true, false, cond}
+use mathlib.Core.Path.{_≡_, refl, sym, subst, _∙_}
+use mathlib.Core.Bool.{Bool, true, false, cond, false≢true}
 use mathlib.Core.List.{List}
 use Prim.Native.Nat.{ℕ}
 use lib.Dec.{ltb}
@@ -15,7 +16,7 @@ use Rattle.rules.specs.Record.{linkLimit}
 use Rattle.rules.specs.Choose.{Choice, none, chosen, choosing}
 use Rattle.rules.specs.Rewrite.{Rewritten, Relaxed, unrelaxed, relaxed, rewrite, claims, relaxChosen, relaxing}
 use Rattle.pass.specs.declared.Pass.{Pass}
-use Rattle.pass.specs.Pass.{isPending, Accepted, took, skipped, overlaps, checked, clearing, stepping}
+use Rattle.pass.specs.Pass.{isPending, isType0, passing, Accepted, took, skipped, overlaps, checked, clearing, stepping}
 
 -- ---- relaxing one record: the window lies inside, and the bytes are rewriting's
 
@@ -45,11 +46,14 @@ relaxing-rewrites sec r k t m x e = subst (Rewrites sec r) e (by-choice sec r (c
 -- ---- a step
 
 module _ (p : Pass) (sec : List ℕ) (r : Relocation) where
+  abbrev Says : Accepted → Type 0
+  Says skipped = (isPending p ≡ true) × (isType0 r ≡ false)
+  Says (took unrelaxed) = isPending p ≡ true → isType0 r ≡ true
+  Says (took (relaxed k t m x)) = (isPending p ≡ false) × (relaxing linkLimit sec r ≡ gives (relaxed k t m x)) × (overlaps p (claims k t) (r .offset) ≡ false)
+
   abbrev pub Sound : Answer Accepted → Type 0
   Sound (refuses n) = Unit {0}
-  Sound (gives skipped) = ltb (r .offset) (p .last) ≡ false
-  Sound (gives (took unrelaxed)) = ltb (r .offset) (p .last) ≡ false
-  Sound (gives (took (relaxed k t m x))) = (ltb (r .offset) (p .last) ≡ false) × ((relaxing linkLimit sec r ≡ gives (relaxed k t m x)) × (overlaps p (claims k t) (r .offset) ≡ false))
+  Sound (gives a) = (p .ended ≡ false) × (ltb (r .offset) (p .last) ≡ false) × Says a
 
   test : (b : Bool) (n : ℕ) (a : Answer Accepted) → (b ≡ false → Sound a) → Sound (cond b (refuses n) a)
   test true n a h = tt
@@ -60,24 +64,29 @@ module _ (p : Pass) (sec : List ℕ) (r : Relocation) where
   by-checked (refuses n) a h = tt
   by-checked (gives c) a h = h
 
-  by-skip : (b : Bool) (a : Answer Accepted) → ltb (r .offset) (p .last) ≡ false → Sound a → Sound (cond b (gives skipped) a)
-  by-skip true a h g = h
-  by-skip false a h g = g
+  module _ (e : p .ended ≡ false) (h : ltb (r .offset) (p .last) ≡ false) where
+    by-type : (b : Bool) → isPending p ≡ true → isType0 r ≡ b → Sound (cond b (gives (took unrelaxed)) (gives skipped))
+    by-type true q z = (e, h, λ _. z)
+    by-type false q z = (e, h, (q, z))
 
-  clear : (k : RelaxationKind) (t : ℕ) (m : Bool) (x : Rewritten) (b : Bool) → overlaps p (claims k t) (r .offset) ≡ b → ltb (r .offset) (p .last) ≡ false → relaxing linkLimit sec r ≡ gives (relaxed k t m x) → Sound (cond b (refuses 23) (gives (took (relaxed k t m x))))
-  clear k t m x true o h e = tt
-  clear k t m x false o h e = (h, (e, o))
+    clear : (k : RelaxationKind) (t : ℕ) (m : Bool) (x : Rewritten) (b : Bool) → overlaps p (claims k t) (r .offset) ≡ b → isPending p ≡ false → relaxing linkLimit sec r ≡ gives (relaxed k t m x) → Sound (cond b (refuses 23) (gives (took (relaxed k t m x))))
+    clear k t m x true o q g = tt
+    clear k t m x false o q g = (e, h, (q, g, o))
 
-  by-clearing : (a : Answer Relaxed) → relaxing linkLimit sec r ≡ a → ltb (r .offset) (p .last) ≡ false → Sound (clearing p r a)
-  unfolding clearing
-  by-clearing (refuses n) e h = tt
-  by-clearing (gives unrelaxed) e h = h
-  by-clearing (gives (relaxed k t m x)) e h = clear k t m x (overlaps p (claims k t) (r .offset)) refl h e
+    by-clearing : (a : Answer Relaxed) → relaxing linkLimit sec r ≡ a → isPending p ≡ false → Sound (clearing p r a)
+    unfolding clearing
+    by-clearing (refuses n) g q = tt
+    by-clearing (gives unrelaxed) g q = (e, h, λ s. absurd (false≢true (sym q ∙ s)))
+    by-clearing (gives (relaxed k t m x)) g q = clear k t m x (overlaps p (claims k t) (r .offset)) refl q g
+
+    by-skip : (b : Bool) → isPending p ≡ b → Sound (cond b (passing r) (clearing p r (relaxing linkLimit sec r)))
+    by-skip true q = by-type (isType0 r) q refl
+    by-skip false q = by-clearing (relaxing linkLimit sec r) refl q
 
   pub step-sound : Sound (stepping p sec r)
   unfolding stepping
   step-sound =
       test (p .ended) 21 _
-      (λ _. by-checked (choosing linkLimit sec r) _
+      (λ e. by-checked (choosing linkLimit sec r) _
       (test (ltb (r .offset) (p .last)) 22 _
-      (λ h. by-skip (isPending p) _ h (by-clearing (relaxing linkLimit sec r) refl h))))
+      (λ h. by-skip e h (isPending p) refl)))

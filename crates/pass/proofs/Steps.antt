@@ -24,7 +24,7 @@ use Rattle.pass.specs.declared.Pass.{Pass}
 use Rattle.pass.specs.declared.Stepped.{Stepped}
 use Rattle.pass.specs.declared.Verdict.{Verdict}
 use Rattle.pass.specs.declared.Verdict.the-variants.{Refuse, Skip, Leave, Relax}
-use Rattle.pass.specs.Pass.{isPending, Accepted, took, skipped, checked, clearing, stepping, passAfter, bytesAfter}
+use Rattle.pass.specs.Pass.{isPending, isType0, passing, Accepted, took, skipped, checked, clearing, stepping, passAfter, bytesAfter}
 use Rattle.pass.specs.Answers.{taken, stepOf, step, placed, verdictOf, tookStep, skippedStep, refusedStep}
 use Rattle.rules.specs.Choose as rules
 use Rattle.relax.specs.declared.Relaxed.the-variants as answer
@@ -69,22 +69,25 @@ module _ (p : Pass) (sec : List ℕ) (r : Relocation) where
   says-placed k t m y true false false e b = rw (e, b, e) (refl, refl)
 
   -- 22, then the skip
-  says-in-order : (below skip : Bool) (s : Answer Accepted) (v : Verdict) (a : Answer Relaxed) → Says s v a → Says (cond below (refuses 22) (cond skip (gives skipped) s)) (cond below (Refuse 22) (cond skip Skip v)) a
-  unfolding passAfter bytesAfter
-  says-in-order true skip s v a h = (refl, refl)
-  says-in-order false true s v a h = (refl, refl)
-  says-in-order false false s v a h = h
+  says-in-order :
+      (below skip type0 : Bool) (s : Answer Accepted) (v : Verdict) (a : Answer Relaxed) → Says s v a
+      → Says (cond below (refuses 22) (cond skip (cond type0 (gives (took unrelaxed)) (gives skipped)) s)) (cond below (Refuse 22) (cond skip (cond type0 Leave Skip) v)) a
+  unfolding passAfter bytesAfter afterRelaxing
+  says-in-order true skip type0 s v a h = (refl, refl)
+  says-in-order false true true s v a h = (refl, refl)
+  says-in-order false true false s v a h = (refl, refl)
+  says-in-order false false type0 s v a h = h
 
   says-choice : (c : Answer rules.Choice)
       → Says
-      (checked c (cond (ltb (r .offset) (p .last)) (refuses 22) (cond (isPending p) (gives skipped) (clearing p r (relaxChosen sec r c)))))
+      (checked c (cond (ltb (r .offset) (p .last)) (refuses 22) (cond (isPending p) (passing r) (clearing p r (relaxChosen sec r c)))))
       (verdictOf p (choiceOf c) (length sec) r)
       (relaxChosen sec r c)
   unfolding checked relaxChosen clearing passAfter bytesAfter afterRelaxing
   says-choice (refuses n) = (refl, refl)
-  says-choice (gives none) = says-in-order (ltb (r .offset) (p .last)) (isPending p) (gives (took unrelaxed)) Leave (gives unrelaxed) (refl, refl)
+  says-choice (gives none) = says-in-order (ltb (r .offset) (p .last)) (isPending p) (isType0 r) (gives (took unrelaxed)) Leave (gives unrelaxed) (refl, refl)
   says-choice (gives (chosen k t m)) =
-      says-in-order (ltb (r .offset) (p .last)) (isPending p) _ _ _
+      says-in-order (ltb (r .offset) (p .last)) (isPending p) (isType0 r) _ _ _
       (says-placed k t m (rewrite k sec (r .offset) (r .addend)) (inside (claims k t) (length sec) (r .offset)) (isEmpty (claims k t)) (ltb (begin (claims k t) (r .offset)) (p .window)) refl refl)
 
   -- ---- the two clauses of a step
@@ -103,7 +106,7 @@ module _ (p : Pass) (sec : List ℕ) (r : Relocation) where
   rest : Answer Accepted
   rest =
       checked (choosing linkLimit sec r)
-      (cond (ltb (r .offset) (p .last)) (refuses 22) (cond (isPending p) (gives skipped) (clearing p r (relaxing linkLimit sec r))))
+      (cond (ltb (r .offset) (p .last)) (refuses 22) (cond (isPending p) (passing r) (clearing p r (relaxing linkLimit sec r))))
 
   pub follows : (c : Choice) → p .ended ≡ false → c ≡ choiceOf (choosing linkLimit sec r) → Follows (verdictOf p c (length sec) r)
   unfolding step stepping relaxing rest
@@ -122,10 +125,11 @@ Came c Skip = Unit {0}
 Came c Leave = Unit {0}
 
 module _ (c : Choice) where
-  in-order : (below skip : Bool) (v : Verdict) → Came c v → Came c (cond below (Refuse 22) (cond skip Skip v))
-  in-order true skip v h = tt
-  in-order false true v h = tt
-  in-order false false v h = h
+  in-order : (below skip type0 : Bool) (v : Verdict) → Came c v → Came c (cond below (Refuse 22) (cond skip (cond type0 Leave Skip) v))
+  in-order true skip type0 v h = tt
+  in-order false true true v h = tt
+  in-order false true false v h = tt
+  in-order false false type0 v h = h
 
 place : (x : Relaxation) (fit empty before : Bool) (w e : ℕ) → Came (Choices.Chosen x) (cond fit (cond empty (Relax w x) (cond before (Refuse 23) (Relax e x))) (Relax w x))
 place x false empty before w e = refl
@@ -135,10 +139,10 @@ place x true false false w e = refl
 
 came : (p : Pass) (c : Choice) (len : ℕ) (r : Relocation) → Came c (verdictOf p c len r)
 came p (Choices.Refused n) len r = tt
-came p Choices.Nothing len r = in-order Choices.Nothing (ltb (r .offset) (p .last)) (isPending p) Leave tt
+came p Choices.Nothing len r = in-order Choices.Nothing (ltb (r .offset) (p .last)) (isPending p) (isType0 r) Leave tt
 came p (Choices.Chosen x) len r =
     let w = claims (x .kind) (x .«new_type») in
-    in-order (Choices.Chosen x) (ltb (r .offset) (p .last)) (isPending p) (placed p x len (r .offset))
+    in-order (Choices.Chosen x) (ltb (r .offset) (p .last)) (isPending p) (isType0 r) (placed p x len (r .offset))
     (place x (inside w len (r .offset)) (isEmpty w) (ltb (begin w (r .offset)) (p .window)) (p .window) (end w (r .offset)))
 
 pub of-relax : (p : Pass) (c : Choice) (len : ℕ) (r : Relocation) (w : ℕ) (x : Relaxation) → verdictOf p c len r ≡ Relax w x → Choices.Chosen x ≡ c

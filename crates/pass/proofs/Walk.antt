@@ -2,7 +2,7 @@
 -- Assumes nothing.
 use mathlib.Core.Path.{_≡_, refl, sym, ap, subst, _∙_}
 use mathlib.Core.Logic.{_⊎_, inl, inr}
-use mathlib.Core.Bool.{Bool, true, false, cond, false≢true}
+use mathlib.Core.Bool.{Bool, true, false, cond, _||_, false≢true}
 use mathlib.Core.List.{List, [], _∷_, _++_, map}
 use Prim.Native.Nat.{ℕ, zero, suc, _+_, _<_, _≤_}
 use native.Mathlib.Nat.{add-zero, le-trans, lt-of-lt-of-le, le-of-lt, le-of-suc-le-suc, not-suc-le-zero}
@@ -13,16 +13,17 @@ use borrow.Author.Tests.{ltb-true, ltb-false, eqb-true, eqb-false}
 use Rattle.rules.specs.Answer.{Answer, gives, refuses}
 use Rattle.x86_64_kind.specs.declared.RelaxationKind.{RelaxationKind}
 use Rattle.x86_64_kind.specs.declared.Window.{Window}
-use Rattle.x86_64_kind.specs.Kinds.{isEmpty, begin, end, inside}
+use Rattle.x86_64_kind.specs.Kinds.{isEmpty, begin, end, inside, skips}
 use Rattle.rules.specs.declared.Relocation.{Relocation}
 use Rattle.rules.specs.Record.{linkLimit}
 use Rattle.rules.specs.Choose.{Choice, choosing}
 use Rattle.rules.specs.Rewrite.{Rewritten, unrelaxed, relaxed, rewritten, claims, relaxing, afterRelaxing}
 use Rattle.x86_64_kind.proofs.Windows.{within}
 use Rattle.rules.proofs.Kept.{Kept, kept}
+use Rattle.laws.proofs.Bools.{both}
 use Rattle.pass.specs.declared.Pass.{Pass}
-use Rattle.pass.specs.Pass.{isPending, Accepted, took, skipped, overlaps, checked, clearing, stepping, passAfter, bytesAfter}
-use Rattle.pass.specs.Walk.{Walk, answer, stepped, walk, answers, offsetOf, offsets, Part, partFrom, partOf, parts, Rising, Apart, Inside, Outside, Walks}
+use Rattle.pass.specs.Pass.{isPending, isType0, passing, Accepted, took, skipped, overlaps, checked, clearing, stepping, passAfter, bytesAfter, ending}
+use Rattle.pass.specs.Walk.{Walk, answer, stepped, walk, answers, offsetOf, offsets, Part, partFrom, partOf, parts, Rising, Apart, Inside, Outside, isRefused, between, lastAt, Walks}
 use Rattle.pass.proofs.Stepping.{Sound, step-sound, relaxing-rewrites}
 
 -- ---- order
@@ -49,9 +50,9 @@ module _ (p : Pass) (sec : List ℕ) (r : Relocation) where
   rises : (a : Answer Accepted) (os : List ℕ) → Sound p sec r a → Rising (passAfter p r a .last) os → Rising (p .last) (offsetOf (r .offset) a ++ os)
   unfolding passAfter
   rises (refuses n) os s h = h
-  rises (gives skipped) os s h = (ltb-false _ _ s, h)
-  rises (gives (took unrelaxed)) os s h = (ltb-false _ _ s, h)
-  rises (gives (took (relaxed k t m x))) os s h = (ltb-false _ _ (s .0), h)
+  rises (gives skipped) os s h = (ltb-false _ _ (s .1), h)
+  rises (gives (took unrelaxed)) os s h = (ltb-false _ _ (s .1), h)
+  rises (gives (took (relaxed k t m x))) os s h = (ltb-false _ _ (s .1), h)
 
   -- a relaxed record's window: where it begins, and what it holds
   clears :
@@ -72,7 +73,7 @@ module _ (p : Pass) (sec : List ℕ) (r : Relocation) where
   stays-apart (refuses n) xs s h = h
   stays-apart (gives skipped) xs s h = h
   stays-apart (gives (took unrelaxed)) xs s h = h
-  stays-apart (gives (took (relaxed k t m x))) xs s h = clears (claims k t) (isEmpty (claims k t)) xs refl (s .1 .1) h
+  stays-apart (gives (took (relaxed k t m x))) xs s h = clears (claims k t) (isEmpty (claims k t)) xs refl (s .2 .2) h
 
   -- a byte lies outside a window that is empty
   misses :
@@ -94,7 +95,7 @@ module _ (p : Pass) (sec : List ℕ) (r : Relocation) where
   keeps (gives (took unrelaxed)) i xs s h = (refl, h)
   keeps (gives (took (relaxed k t m x))) i xs s h =
       let g = misses (claims k t) (isEmpty (claims k t)) i xs refl h in
-      (rewrites k t m x (s .1 .0) .outside i (g .0), g .1)
+      (rewrites k t m x (s .2 .1) .outside i (g .0), g .1)
 
   -- and lies inside
   lies-in : (w : Window) (empty : Bool) (xs : List Part) → inside w (length sec) (r .offset) ≡ true → Inside (length sec) xs
@@ -106,14 +107,14 @@ module _ (p : Pass) (sec : List ℕ) (r : Relocation) where
   lies (refuses n) xs s h = h
   lies (gives skipped) xs s h = h
   lies (gives (took unrelaxed)) xs s h = h
-  lies (gives (took (relaxed k t m x))) xs s h = lies-in (claims k t) (isEmpty (claims k t)) xs (relaxing-rewrites sec r k t m x (s .1 .0) .0) h
+  lies (gives (took (relaxed k t m x))) xs s h = lies-in (claims k t) (isEmpty (claims k t)) xs (relaxing-rewrites sec r k t m x (s .2 .1) .0) h
 
   sized : (a : Answer Accepted) → Sound p sec r a → length (bytesAfter sec a) ≡ length sec
   unfolding bytesAfter afterRelaxing
   sized (refuses n) s = refl
   sized (gives skipped) s = refl
   sized (gives (took unrelaxed)) s = refl
-  sized (gives (took (relaxed k t m x))) s = rewrites k t m x (s .1 .0) .size
+  sized (gives (took (relaxed k t m x))) s = rewrites k t m x (s .2 .1) .size
 
 -- ---- a step that isn't idle, and one after the end
 
@@ -124,7 +125,7 @@ works :
     → answer w r ≡ gives (took (relaxed k t m x))
 unfolding stepping checked clearing
 works w r c k t m x e h l s f o = rw (h, l, f, o) (clear (w .pass .ended) (isPending (w .pass)) e s) where
-  clear : (ended skip : Bool) → ended ≡ false → skip ≡ false → cond ended (refuses 21) (cond skip (gives skipped) (gives (took (relaxed k t m x)))) ≡ gives (took (relaxed k t m x))
+  clear : (ended skip : Bool) → ended ≡ false → skip ≡ false → cond ended (refuses 21) (cond skip (passing r) (gives (took (relaxed k t m x)))) ≡ gives (took (relaxed k t m x))
   clear false false e s = refl
   clear true skip e s = absurd (false≢true (sym e))
   clear false true e s = absurd (false≢true (sym s))
@@ -193,14 +194,64 @@ pairwise b (x ∷ xs) i zero h l g = absurd (not-suc-le-zero l)
 pairwise b (x ∷ xs) zero (suc j) h l g = above (x .to) xs j (h .2) (le-of-suc-le-suc g)
 pairwise b (x ∷ xs) (suc i) (suc j) h l g = pairwise (x .to) xs i j (h .2) (le-of-suc-le-suc l) (le-of-suc-le-suc g)
 
+-- ---- a pending skip: an accepted record of another type than 0 is skipped, and one of type 0 moves the last offset
+
+waiting : (w : Walk) (r : Relocation) (a : Answer Accepted) → Sound (w .pass) (w .section) r a → isPending (w .pass) ≡ true → (isType0 r || isRefused a) ≡ true
+    → record { pass = passAfter (w .pass) r a; section = bytesAfter (w .section) a } ≡ lastAt (passAfter (w .pass) r a .last) w
+unfolding passAfter bytesAfter afterRelaxing
+waiting w r (refuses n) s q b = refl
+waiting w r (gives (took unrelaxed)) s q b = refl
+waiting w r (gives skipped) s q b = absurd (false≢true (rw (s .2 .1) at b))
+waiting w r (gives (took (relaxed k t m x))) s q b = absurd (false≢true (sym (s .2 .0) ∙ q))
+
+waits : (w : Walk) (rs : List Relocation) → isPending (w .pass) ≡ true → between w rs ≡ true → walk w rs ≡ lastAt (walk w rs .pass .last) w
+waits w [] q b = refl
+waits w (r ∷ rs) q b =
+    let h = both (isType0 r || isRefused (answer w r)) (between (stepped w r) rs) b in
+    let s = waiting w r (answer w r) (sound w r) q (h .0) in
+    waits (stepped w r) rs (ap (λ (v : Walk). isPending (v .pass)) s ∙ q) (h .1) ∙ ap (lastAt (walk (stepped w r) rs .pass .last)) s
+
+next : (w : Walk) (r : Relocation) (a : Accepted) → Sound (w .pass) (w .section) r (gives a) → isPending (w .pass) ≡ true → isType0 r ≡ false → a ≡ skipped
+next w r skipped s q z = refl
+next w r (took unrelaxed) s q z = absurd (false≢true (sym z ∙ s .2 q))
+next w r (took (relaxed k t m x)) s q z = absurd (false≢true (sym (s .2 .0) ∙ q))
+
+module _ (w : Walk) (s : Relocation) (k : RelaxationKind) (t : ℕ) (m : Bool) (x : Rewritten) (rs : List Relocation) (e : answer w s ≡ gives (took (relaxed k t m x))) (q : skips k ≡ true) (b : between (stepped w s) rs ≡ true) where
+  here : Walk
+  here = walk (stepped w s) rs
+
+  set : (stepped w s .pass .ended ≡ false) × (isPending (stepped w s .pass) ≡ true)
+  unfolding passAfter
+  set = (rw e (subst (Sound (w .pass) (w .section) s) e (sound w s) .0), rw e q)
+
+  stays : here ≡ lastAt (here .pass .last) (stepped w s)
+  unfolding here
+  stays = waits (stepped w s) rs (set .1) b
+
+  pending : isPending (here .pass) ≡ true
+  pending = ap (λ (v : Walk). isPending (v .pass)) stays ∙ set .1
+
+  skips-next : (r : Relocation) (a : Accepted) → isType0 r ≡ false → answer here r ≡ gives a → (a ≡ skipped) × (isPending (stepped here r .pass) ≡ false)
+  unfolding passAfter
+  skips-next r a z g =
+      let n = next here r a (subst (Sound (here .pass) (here .section) r) g (sound here r)) pending z in
+      (n, rw (g ∙ ap (λ (y : Accepted). gives y) n))
+
+  pair : (ending (here .pass) ≡ refuses 24)
+      × ((r : Relocation) (a : Accepted) → isType0 r ≡ false → answer here r ≡ gives a → (a ≡ skipped) × (isPending (stepped here r .pass) ≡ false))
+  pair = (rw (ap (λ (v : Walk). v .pass .ended) stays ∙ set .0, pending), skips-next)
+
 pub walks : Walks
-unfolding low
+unfolding low here
 walks =
     record {
       order = order;
       joined = joined;
       works = works;
       over = over;
+      waits = waits;
+      pair = pair;
+      only = λ w r e. subst (Sound (w .pass) (w .section) r) e (sound w r) .2;
       rising = rising;
       apart = apart;
       no-overlap = λ w rs i j l g. pairwise (w .pass .window) (parts w rs) i j (apart w rs) l g;

@@ -20,7 +20,7 @@ use Rattle.pass.specs.declared.Ended.{Ended}
 use Rattle.pass.specs.declared.Verdict.{Verdict}
 use Rattle.pass.specs.declared.Step.the-variants.{Nothing, Done, Skipped, Refused}
 use Rattle.pass.specs.declared.Verdict.the-variants.{Refuse, Skip, Leave, Relax}
-use Rattle.pass.specs.Pass.{passed, cleared, pending, isPending, Accepted, took, skipped, stepping, passAfter, bytesAfter, ending, endedPass}
+use Rattle.pass.specs.Pass.{passed, cleared, pending, isPending, isType0, Accepted, took, skipped, stepping, passAfter, bytesAfter, ending, endedPass}
 use Rattle.elf_x86_64_relaxation.specs.declared.Choice.the-variants as choice
 use Rattle.relax.specs.declared.Relaxed.the-variants as answer
 use Rattle.pass.specs.declared.End.the-variants as end
@@ -62,9 +62,9 @@ placed p x len off =
     (cond (isEmpty w) (Relax (p .window) x) (cond (ltb (begin w off) (p .window)) (Refuse 23) (Relax (end w off) x)))
     (Relax (p .window) x)
 
--- 22, then the skip
+-- 22, then the skip, which a type 0 record leaves pending
 abbrev pub inOrder : Pass → Relocation → Verdict → Verdict
-inOrder p r v = cond (ltb (r .offset) (p .last)) (Refuse 22) (cond (isPending p) Skip v)
+inOrder p r v = cond (ltb (r .offset) (p .last)) (Refuse 22) (cond (isPending p) (cond (isType0 r) Leave Skip) v)
 
 -- what the pass says of a record whose choice is known, in a section of a length
 abbrev pub verdictOf : Pass → Choice → ℕ → Relocation → Verdict

@@ -1,8 +1,8 @@
--- Document 01, 'The pass above': a step and an ending, from any state that a caller could hand in. Assumes nothing.
+-- Document 01, 'The pass above', with card 2 of document 02: a step and an ending, from any state that a caller could hand in. Assumes nothing.
 use mathlib.Core.Bool.{Bool, true, false, cond}
 use mathlib.Core.List.{List}
 use Prim.Native.Nat.{ℕ}
-use lib.Dec.{ltb}
+use lib.Dec.{eqb, ltb}
 use Rattle.x86_64_kind.specs.declared.Window.{Window}
 use Rattle.x86_64_kind.specs.Kinds.{begin, end, isEmpty, skips}
 use Rattle.rules.specs.declared.Relocation.{Relocation}
@@ -58,16 +58,24 @@ clearing p r (refuses n) = refuses n
 clearing p r (gives unrelaxed) = gives (took unrelaxed)
 clearing p r (gives (relaxed k t m x)) = cond (overlaps p (claims k t) (r .offset)) (refuses 23) (gives (took (relaxed k t m x)))
 
+-- card 2: "a type 0 record": by its own type
+abbrev pub isType0 : Relocation → Bool
+isType0 r = eqb (r .«r_type») 0
+
+-- while a skip is pending: "the next record is skipped"; card 2: "a type 0 record .. is accepted as none"
+abbrev pub passing : Relocation → Answer Accepted
+passing r = cond (isType0 r) (gives (took unrelaxed)) (gives skipped)
+
 -- "A pass step: 21, 1, 2, 3, 4, 22, skip, choice, 6, 23"
 unfoldable pub stepping : Pass → List ℕ → Relocation → Answer Accepted
 stepping p sec r =
     cond (p .ended) (refuses 21)
     (checked (choosing linkLimit sec r)
     (cond (ltb (r .offset) (p .last)) (refuses 22)
-    (cond (isPending p) (gives skipped) (clearing p r (relaxing linkLimit sec r)))))
+    (cond (isPending p) (passing r) (clearing p r (relaxing linkLimit sec r)))))
 
 -- the pass then: "a skipped one clears the pending skip. A refused step .. hands the pass back unchanged"; "After a kind whose modifier is
--- SkipNextRelocation, the next record is skipped"
+-- SkipNextRelocation, the next record is skipped"; none "sets the last offset, and leaves the skip pending" (card 2)
 unfoldable pub passAfter : Pass → Relocation → Answer Accepted → Pass
 passAfter p r (refuses n) = p
 passAfter p r (gives skipped) = pending false (passed r p)

@@ -1,7 +1,7 @@
 -- What a walk over a list of records means: the step, folded, and what holds of every walk from any pass over any section. Assumes nothing.
 use mathlib.Core.Path.{_≡_}
 use mathlib.Core.Logic.{_⊎_}
-use mathlib.Core.Bool.{Bool, true, false, cond}
+use mathlib.Core.Bool.{Bool, true, false, cond, _||_, _&&_}
 use mathlib.Core.List.{List, [], _∷_, _++_, map}
 use Prim.Native.Nat.{ℕ, _<_, _≤_}
 use lib.Dec.{ltb}
@@ -9,13 +9,13 @@ use lib.ListN.{length, getD}
 use Rattle.rules.specs.Answer.{Answer, gives, refuses}
 use Rattle.x86_64_kind.specs.declared.RelaxationKind.{RelaxationKind}
 use Rattle.x86_64_kind.specs.declared.Window.{Window}
-use Rattle.x86_64_kind.specs.Kinds.{isEmpty, begin, end}
+use Rattle.x86_64_kind.specs.Kinds.{isEmpty, begin, end, skips}
 use Rattle.rules.specs.declared.Relocation.{Relocation}
 use Rattle.rules.specs.Record.{linkLimit}
 use Rattle.rules.specs.Choose.{Choice, choosing}
 use Rattle.rules.specs.Rewrite.{Rewritten, unrelaxed, relaxed, claims, relaxing}
 use Rattle.pass.specs.declared.Pass.{Pass}
-use Rattle.pass.specs.Pass.{Accepted, took, skipped, isPending, overlaps, stepping, passAfter, bytesAfter}
+use Rattle.pass.specs.Pass.{Accepted, took, skipped, isPending, isType0, overlaps, stepping, passAfter, bytesAfter, ending}
 
 -- a pass and its section
 pub record Walk : Type 0 where
@@ -89,6 +89,19 @@ abbrev pub Outside : ℕ → List Part → Type 0
 Outside i [] = Unit {0}
 Outside i (x ∷ xs) = ((i < x .from) ⊎ (x .to ≤ i)) × Outside i xs
 
+-- each is "a type 0 record", or is refused where it stands
+abbrev pub isRefused : Answer Accepted → Bool
+isRefused (refuses n) = true
+isRefused (gives a) = false
+
+abbrev pub between : Walk → List Relocation → Bool
+between w [] = true
+between w (r ∷ rs) = (isType0 r || isRefused (answer w r)) && between (stepped w r) rs
+
+-- only the last offset is another
+abbrev pub lastAt : ℕ → Walk → Walk
+lastAt n w = record { pass = record { last = n; window = w .pass .window; skip = w .pass .skip; ended = w .pass .ended }; section = w .section }
+
 -- ---- what holds of every walk
 
 pub record Walks : Type 0 where
@@ -106,6 +119,19 @@ pub record Walks : Type 0 where
       → answer w r ≡ gives (took (relaxed k t m x))
   -- a pass that has ended answers 21 to every record, and nothing changes
   pub over : (w : Walk) (rs : List Relocation) → w .pass .ended ≡ true → (answers w rs ≡ map (λ _. refuses 21) rs) × (walk w rs ≡ w)
+  -- "a type 0 record met while a skip is pending .. leaves the skip pending": any number of them, refused records among them, move the
+  -- last offset and nothing else
+  pub waits : (w : Walk) (rs : List Relocation) → isPending (w .pass) ≡ true → between w rs ≡ true → walk w rs ≡ lastAt (walk w rs .pass .last) w
+  -- whatever such records stand behind one that set a skip: "Ending then still gives 24", and the next record of another type that is
+  -- accepted is the one that is skipped, with no skip pending then
+  pub pair :
+      (w : Walk) (s : Relocation) (k : RelaxationKind) (t : ℕ) (m : Bool) (x : Rewritten) (rs : List Relocation)
+      → answer w s ≡ gives (took (relaxed k t m x)) → skips k ≡ true → between (stepped w s) rs ≡ true
+      → let here = walk (stepped w s) rs in
+      (ending (here .pass) ≡ refuses 24)
+      × ((r : Relocation) (a : Accepted) → isType0 r ≡ false → answer here r ≡ gives a → (a ≡ skipped) × (isPending (stepped here r .pass) ≡ false))
+  -- no other record is ever skipped
+  pub only : (w : Walk) (r : Relocation) → answer w r ≡ gives skipped → (isPending (w .pass) ≡ true) × (isType0 r ≡ false)
   -- offsets never fall
   pub rising : (w : Walk) (rs : List Relocation) → Rising (w .pass .last) (offsets w rs)
   -- windows never overlap: none begins before the end of the last one, and so none before the end of any

@@ -126,6 +126,7 @@ impl Pass {
         }
     }
 
+    // A type 0 record leaves a pending skip as it is.
     fn in_order(self, rel: Relocation, verdict: Verdict) -> Verdict
         ensures { λ r. ⌜ r ≡ inOrder self rel verdict ⌝ }
     {
@@ -133,6 +134,9 @@ impl Pass {
             return Verdict::Refuse(22);
         }
         if self.skip {
+            if rel.r_type == object::R_X86_64_NONE {
+                return Verdict::Leave;
+            }
             return Verdict::Skip;
         }
         verdict

@@ -46,8 +46,8 @@ abbrev at : ℕ → ℕ → Act
 at = for 1 0
 
 -- the kinds from 0 on, of which 0 wants a position-independent program, and 15 and 17 a symbol that can be interposed; a call is skipped
--- after each of 10 to 15, before the first of which an ending is refused with 24; then none; 22, 23, 6, 2, 3, 4; an ending that is granted;
--- and 21, of a record and of an ending
+-- after each of 10 to 15, before the first of which stand two records of type 0, and endings that are refused with 24; then none; 22, 23, 6,
+-- 2, 3, 4; an ending that is granted; and 21, of a record and of an ending
 abbrev pub acts : List Act
 acts =
     for 1 1 42 3
@@ -61,6 +61,9 @@ acts =
     ∷ at 41 59
     ∷ at 4 64
     ∷ at 19 72
+    ∷ ends
+    ∷ at 0 72
+    ∷ at 0 80
     ∷ ends
     ∷ at 4 80
     ∷ at 19 87
@@ -113,16 +116,16 @@ pub record TallyWorked : Type 0 where
   -- what each step came to; the endings are none
   pub told-all :
       map told (steps (fresh section .walk) acts)
-      ≡ 0 ∷ 1 ∷ 2 ∷ 3 ∷ 3 ∷ 5 ∷ 6 ∷ 7 ∷ 8 ∷ 9 ∷ 10 ∷ 20 ∷ 11 ∷ 20 ∷ 12 ∷ 20 ∷ 13 ∷ 20 ∷ 14 ∷ 20 ∷ 15 ∷ 20 ∷ 16 ∷ 17 ∷ 18 ∷ 18 ∷ 19
+      ≡ 0 ∷ 1 ∷ 2 ∷ 3 ∷ 3 ∷ 5 ∷ 6 ∷ 7 ∷ 8 ∷ 9 ∷ 10 ∷ 19 ∷ 19 ∷ 20 ∷ 11 ∷ 20 ∷ 12 ∷ 20 ∷ 13 ∷ 20 ∷ 14 ∷ 20 ∷ 15 ∷ 20 ∷ 16 ∷ 17 ∷ 18 ∷ 18 ∷ 19
       ∷ 122 ∷ 123 ∷ 106 ∷ 102 ∷ 103 ∷ 104 ∷ 121 ∷ []
-  -- every kind but 4, which is never chosen; one is none, six are skipped; 129 bytes
+  -- every kind but 4, which is never chosen; three are none, six are skipped; 129 bytes
   pub figures :
       after (fresh section) acts .figures
-      ≡ 1 ∷ 1 ∷ 1 ∷ 2 ∷ 0 ∷ 1 ∷ 1 ∷ 1 ∷ 1 ∷ 1 ∷ 1 ∷ 1 ∷ 1 ∷ 1 ∷ 1 ∷ 1 ∷ 1 ∷ 1 ∷ 2 ∷ 1 ∷ 6 ∷ 129 ∷ []
+      ≡ 1 ∷ 1 ∷ 1 ∷ 2 ∷ 0 ∷ 1 ∷ 1 ∷ 1 ∷ 1 ∷ 1 ∷ 1 ∷ 1 ∷ 1 ∷ 1 ∷ 1 ∷ 1 ∷ 1 ∷ 1 ∷ 2 ∷ 3 ∷ 6 ∷ 129 ∷ []
   -- each is one less than that, modulo 2^64
   pub wraps :
       after full acts .figures
-      ≡ 0 ∷ 0 ∷ 0 ∷ 1 ∷ (2 ^ 64 - 1) ∷ 0 ∷ 0 ∷ 0 ∷ 0 ∷ 0 ∷ 0 ∷ 0 ∷ 0 ∷ 0 ∷ 0 ∷ 0 ∷ 0 ∷ 0 ∷ 1 ∷ 0 ∷ 5 ∷ 128 ∷ []
+      ≡ 0 ∷ 0 ∷ 0 ∷ 1 ∷ (2 ^ 64 - 1) ∷ 0 ∷ 0 ∷ 0 ∷ 0 ∷ 0 ∷ 0 ∷ 0 ∷ 0 ∷ 0 ∷ 0 ∷ 0 ∷ 0 ∷ 0 ∷ 1 ∷ 2 ∷ 5 ∷ 128 ∷ []
   -- each kind at its place in their order, 4 among them, and its window's bytes
   pub places : own 0 (kinds 3) ≡ replicate 19 1
   pub bytes :
