@@ -89,11 +89,11 @@ abbrev pub Outside : ℕ → List Part → Type 0
 Outside i [] = Unit {0}
 Outside i (x ∷ xs) = ((i < x .from) ⊎ (x .to ≤ i)) × Outside i xs
 
--- each is "a type 0 record", or is refused where it stands
 abbrev pub isRefused : Answer Accepted → Bool
 isRefused (refuses n) = true
 isRefused (gives a) = false
 
+-- each is "a type 0 record", or is refused where it stands
 abbrev pub between : Walk → List Relocation → Bool
 between w [] = true
 between w (r ∷ rs) = (isType0 r || isRefused (answer w r)) && between (stepped w r) rs
