@@ -169,6 +169,45 @@ fn every_field_of_a_pass() {
     assert_eq!(walked, pass(14, 12, 0, 1));
 }
 
+/// While a skip is pending, with a tally and without; it stays pending. 21 stands below.
+#[test]
+fn refusals_of_an_empty_record() {
+    let (mut section, mut long) = (bytes(SECTION), vec![0; 268_435_457]);
+    for (refusal, offset, flags, output_kind) in [
+        (1, 12, 16, 6),
+        (2, 28, 16, 6),
+        (3, 3, 16, 6),
+        (4, 3, 1, 6),
+        (22, 3, 1, 0),
+    ] {
+        let lent = if refusal == 1 {
+            &mut long
+        } else {
+            &mut section
+        };
+        let (mut plain, mut tallied) = (pass(4, 12, 1, 0), pass(4, 12, 1, 0));
+        let mut tally = sys::Tally::default();
+        let answers = [
+            sys::pass_step(&mut plain, 0, lent, offset, flags, output_kind, true, 0, -4),
+            sys::tally_step(
+                &mut tallied,
+                &mut tally,
+                0,
+                lent,
+                offset,
+                flags,
+                output_kind,
+                true,
+                0,
+                -4,
+            ),
+        ];
+        assert_eq!(answers.map(|it| it.relaxed.choice.refusal), [refusal; 2]);
+        assert_eq!([plain, tallied], [pass(4, 12, 1, 0); 2]);
+        assert_eq!(tally, sys::Tally::default());
+    }
+}
+
 /// Passes that no walk leaves: each word is read as what it is called, and any but 0 is a yes.
 #[test]
 fn any_words_are_a_pass() {
