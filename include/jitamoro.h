@@ -32,9 +32,9 @@ extern "C" {
 
 /* ---- The version of this header and its archive, as CHANGELOG.md has it */
 
-#define JITAMORO_VERSION "0.4.0"
+#define JITAMORO_VERSION "0.5.0"
 #define JITAMORO_VERSION_MAJOR 0
-#define JITAMORO_VERSION_MINOR 4
+#define JITAMORO_VERSION_MINOR 5
 #define JITAMORO_VERSION_PATCH 0
 
 /* ---- Limits */
@@ -126,7 +126,8 @@ enum jitamoro_output { JITAMORO_OUTPUTS(JITAMORO_ENUMERATOR_) };
 enum jitamoro_kind { JITAMORO_KINDS(JITAMORO_ENUMERATOR_) };
 
 /* The figures of a tally (jitamoro_tally_name): records relaxed, by kind and its number; records that nothing was done
-   for; records skipped; and the bytes of the relaxed records' windows, whether or not they changed. */
+   for, among them those of type 0; records skipped; and the bytes of the relaxed records' windows, whether or not they
+   changed. */
 #define JITAMORO_TALLY_FIGURES(X)                                                 \
     X(JITAMORO_TALLY_MOV_INDIRECT_TO_LEA, 0, "MovIndirectToLea")                  \
     X(JITAMORO_TALLY_MOV_INDIRECT_TO_ABSOLUTE, 1, "MovIndirectToAbsolute")        \
@@ -284,7 +285,8 @@ struct jitamoro_relaxed {
 struct jitamoro_pass {
     uint64_t last;    /* the last accepted record's offset */
     uint64_t window;  /* the end of the last window that wasn't empty */
-    uint64_t pending; /* 0: no skip is pending; any other: the next record is to be skipped. A step sets 0 or 1 */
+    uint64_t pending; /* 0: no skip is pending; any other: the next record is to be skipped, unless its type is 0. A
+                         step sets 0 or 1 */
     uint64_t ended;   /* 0: not ended; any other: ended. Ending sets 1 */
 };
 
@@ -404,7 +406,9 @@ static inline struct jitamoro_choice jitamoro_choose_record(const struct jitamor
 /* A pass before its first record: four zeros, as `struct jitamoro_pass pass = {0};` has them. */
 struct jitamoro_pass jitamoro_pass_fresh(void);
 
-/* Takes one record: skips it if that is pending, with no byte touched, or relaxes it as jitamoro_relax does.
+/* Takes one record: skips it if that is pending, with no byte touched, or relaxes it as jitamoro_relax does. An empty
+   record, which comes with type 0 (JITAMORO_R_X86_64_NONE), is never skipped: it is none, and a pending skip waits for
+   the next record. It sets `last` as any accepted record does, so that a call that lies before it is refused with 22.
    Refusals 21, 1, 2, 3, 4, 22, then the skip, then 6 and 23 where a kind was chosen; an empty window is never
    refused with 23. */
 struct jitamoro_step jitamoro_pass_step(struct jitamoro_pass *pass, uint32_t r_type, uint8_t *section,
@@ -427,7 +431,8 @@ static inline struct jitamoro_step jitamoro_step_record(struct jitamoro_pass *pa
     return jitamoro_stepped_(record, jitamoro_pass_step(pass, JITAMORO_OF_(record, section, len)));
 }
 
-/* Ends the pass, and answers 0 or a refusal: sets `ended` and nothing else. Refusals 21, 24. */
+/* Ends the pass, and answers 0 or a refusal: sets `ended` and nothing else. Refusals 21, and 24 while a skip is
+   pending. */
 uint8_t jitamoro_pass_end(struct jitamoro_pass *pass);
 
 /* ---- The same walk, with a tally of what it did */

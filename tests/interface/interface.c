@@ -1,7 +1,7 @@
 /*
- * What C sees of the library, by document 01 alone: the version, every word of a pass and every figure of a tally after
- * a step, records held in place, the texts of numbers, the order of the refusals, with the longest section and one byte
- * more, and the ends of the ranges.
+ * What C sees of the library, by documents 01 and 02 alone: the version, every word of a pass and every figure of a
+ * tally after a step, empty records inside a pair, records held in place, the texts of numbers, the order of the
+ * refusals, with the longest section and one byte more, and the ends of the ranges.
  */
 #define _DEFAULT_SOURCE
 #include <jitamoro.h>
@@ -81,6 +81,58 @@ static void pass_words(void) {
     EXPECT_PASS(15, 12, 0, 1);
 }
 
+/* Empty records inside a pair: each only sets the last offset, and the end isn't granted before the call. */
+static void empty_words(void) {
+    uint8_t section[32] = {0x66, 0x48, 0x8d, 0x3d, 0, 0, 0, 0, 0x66, 0x66, 0x48, 0xe8}, rewritten[sizeof section];
+    struct jitamoro_pass pass = jitamoro_pass_fresh();
+    step(&pass, JITAMORO_R_X86_64_TLSGD, 4, section, sizeof section);
+    memcpy(rewritten, section, sizeof section);
+    for (uint64_t offset = 4; offset < 12; offset += 3) {
+        struct jitamoro_step s = step(&pass, JITAMORO_R_X86_64_NONE, offset, section, sizeof section);
+        EXPECT(s.skipped, false);
+        EXPECT(s.relaxed.choice.refusal, 0);
+        EXPECT(s.relaxed.choice.chosen, false);
+        EXPECT_PASS(offset, 12, 1, 0);
+        EXPECT(jitamoro_pass_end(&pass), JITAMORO_REFUSED_SKIP_PENDING);
+        EXPECT_PASS(offset, 12, 1, 0);
+    }
+    EXPECT(step(&pass, JITAMORO_R_X86_64_PLT32, 14, section, sizeof section).skipped, true);
+    EXPECT_PASS(14, 12, 0, 0);
+    EXPECT(step(&pass, JITAMORO_R_X86_64_NONE, 15, section, sizeof section).skipped, false);
+    EXPECT_PASS(15, 12, 0, 0);
+    EXPECT(memcmp(section, rewritten, sizeof section), 0);
+    EXPECT(jitamoro_pass_end(&pass), 0);
+}
+
+/* Only its own type makes a record empty: neither that nothing is chosen for it, nor that its new type is 0. */
+static void other_records(void) {
+    static const struct {
+        uint32_t r_type;
+        uint8_t offset, flags;
+        bool chosen;
+    } rows[] = {
+        {JITAMORO_R_X86_64_PLT32, 12, 0, false},       {JITAMORO_R_X86_64_64, 12, 1, false}, {256, 12, 1, false},
+        {1u << 31, 12, 1, false},                      {JITAMORO_R_X86_64_TLSLD, 21, 1, true},
+        {JITAMORO_R_X86_64_TLSDESC_CALL, 16, 1, true},
+    };
+    for (size_t i = 0; i < COUNT(rows); i++) {
+        uint8_t section[32] = {0x66, 0x48, 0x8d, 0x3d, 0,    0, 0, 0, 0x66, 0x66, 0x48, 0xe8, 0, 0, 0, 0, 0xff, 0x10,
+                               0x48, 0x8d, 0x3d, 0,    0,    0, 0, 0xe8};
+        struct jitamoro_choice c = jitamoro_new_relaxation(rows[i].r_type, section, sizeof section, rows[i].offset,
+                                                           rows[i].flags, 0, true, 0x401000, -4);
+        EXPECT(c.refusal, 0);
+        EXPECT(c.chosen, rows[i].chosen);
+        EXPECT(c.new_type, JITAMORO_R_X86_64_NONE);
+        struct jitamoro_pass pass = jitamoro_pass_fresh();
+        step(&pass, JITAMORO_R_X86_64_TLSGD, 4, section, sizeof section);
+        step(&pass, JITAMORO_R_X86_64_NONE, 5, section, sizeof section);
+        struct jitamoro_step s = jitamoro_pass_step(&pass, rows[i].r_type, section, sizeof section, rows[i].offset,
+                                                    rows[i].flags, 0, true, 0x401000, -4);
+        EXPECT(s.skipped, true);
+        EXPECT_PASS(rows[i].offset, 12, 0, 0);
+    }
+}
+
 /* Passes that no walk leaves: each word is read as what it is called, and any but 0 is a yes. */
 static void any_words(void) {
     static const uint64_t yes[] = {1, 7, 255, 256, 1ull << 32, 1ull << 63, UINT64_MAX};
@@ -89,6 +141,9 @@ static void any_words(void) {
         struct jitamoro_pass pass = {3, 1ull << 40, yes[i], 0};
         EXPECT(jitamoro_pass_end(&pass), JITAMORO_REFUSED_SKIP_PENDING);
         EXPECT_PASS(3, 1ull << 40, yes[i], 0);
+        EXPECT(step(&pass, 0, 4, section, sizeof section).skipped, false);
+        EXPECT_PASS(4, 1ull << 40, 1, 0);
+        pass.pending = yes[i];
         EXPECT(step(&pass, 1, 5, section, sizeof section).skipped, true);
         EXPECT_PASS(5, 1ull << 40, 0, 0);
         pass = (struct jitamoro_pass){1ull << 40, 3, yes[i], 0};
@@ -157,6 +212,10 @@ static void tally_walk(int start) {
     static const struct counted steps[] = {
         {JITAMORO_R_X86_64_64, 1, 0, 0, JITAMORO_TALLY_NONE, 0},
         {JITAMORO_R_X86_64_TLSGD, 1, 4, 0, JITAMORO_TALLY_TLS_GD_TO_LOCAL_EXEC, 12},
+        {JITAMORO_R_X86_64_NONE, 1, 4, 0, JITAMORO_TALLY_NONE, 0},
+        {JITAMORO_R_X86_64_NONE, 1, 12, 0, JITAMORO_TALLY_NONE, 0},
+        {JITAMORO_R_X86_64_NONE, 1, 11, JITAMORO_REFUSED_ORDER, 0, 0},
+        {JITAMORO_R_X86_64_NONE, 16, 12, JITAMORO_REFUSED_FLAGS, 0, 0},
         {JITAMORO_R_X86_64_PLT32, 1, 3, JITAMORO_REFUSED_ORDER, 0, 0},
         {JITAMORO_R_X86_64_PLT32, 16, 12, JITAMORO_REFUSED_FLAGS, 0, 0},
         {JITAMORO_R_X86_64_PLT32, 1, 12, 0, JITAMORO_TALLY_SKIPPED, 0},
@@ -227,7 +286,7 @@ static void tallies(void) {
     }
 }
 
-/* ---- Records held in place: relaxed, none, refused, skipped */
+/* ---- Records held in place: relaxed, none, refused, skipped, empty inside a pair */
 
 static struct jitamoro_record load_at(uint64_t offset, int64_t addend) {
     struct jitamoro_record record = {
@@ -270,6 +329,11 @@ static void records(void) {
     record.r_type = JITAMORO_R_X86_64_TLSGD;
     EXPECT(jitamoro_step_record(&pass, &record, section, sizeof section).relaxed.choice.chosen, true);
     EXPECT_RECORD(23, 12, 0);
+    record = load_at(9, -3);
+    record.r_type = JITAMORO_R_X86_64_NONE;
+    EXPECT(jitamoro_step_record(&pass, &record, section, sizeof section).relaxed.choice.chosen, false);
+    EXPECT_RECORD(JITAMORO_R_X86_64_NONE, 9, -3);
+    EXPECT_PASS(9, 12, 1, 0);
     record = load_at(12, -4);
     EXPECT(jitamoro_step_record(&pass, &record, section, sizeof section).skipped, true);
     EXPECT_RECORD(JITAMORO_R_X86_64_NONE, 12, -4);
@@ -280,13 +344,11 @@ static void records(void) {
     EXPECT_PASS(12, 12, 0, 0);
 }
 
-/* The same with a tally: relaxed, skipped, none, refused. */
+/* The same with a tally: relaxed, empty, skipped, none, refused. */
 static void tally_records(void) {
-    static const uint8_t bytes[32] = {0x66, 0x48, 0x8d, 0x3d, 0, 0, 0, 0, 0x66, 0x66, 0x48, 0xe8};
+    uint8_t section[32] = {0x66, 0x48, 0x8d, 0x3d, 0, 0, 0, 0, 0x66, 0x66, 0x48, 0xe8};
     struct jitamoro_pass pass = jitamoro_pass_fresh();
     struct jitamoro_tally of_walk = start_of(2), wanted = of_walk, *tally = &of_walk;
-    uint8_t section[sizeof bytes];
-    memcpy(section, bytes, sizeof section);
     struct jitamoro_record record = load_at(4, -4);
     record.r_type = JITAMORO_R_X86_64_TLSGD;
     EXPECT(jitamoro_tally_step_record(&pass, tally, &record, section, sizeof section).relaxed.choice.chosen, true);
@@ -295,6 +357,13 @@ static void tally_records(void) {
     wanted.figures[JITAMORO_TALLY_BYTES] += 12;
     EXPECT_TALLY();
     EXPECT(section[0], 0x64);
+    record = load_at(9, -3);
+    record.r_type = JITAMORO_R_X86_64_NONE;
+    EXPECT(jitamoro_tally_step_record(&pass, tally, &record, section, sizeof section).relaxed.choice.chosen, false);
+    EXPECT_RECORD(JITAMORO_R_X86_64_NONE, 9, -3);
+    wanted.figures[JITAMORO_TALLY_NONE]++;
+    EXPECT_TALLY();
+    EXPECT_PASS(9, 12, 1, 0);
     record = load_at(12, -4);
     EXPECT(jitamoro_tally_step_record(&pass, tally, &record, section, sizeof section).skipped, true);
     EXPECT_RECORD(JITAMORO_R_X86_64_NONE, 12, -4);
@@ -387,9 +456,30 @@ static void tally_refusal(int line, const struct asked *a, int step_) {
     }
 }
 
+/* The same with an empty record: it has no window, and so neither 6 nor 23; taken, it only sets the last offset. */
+static void empty_refusal(int line, const struct asked *a, int step_) {
+    uint64_t wanted = step_ == 6 ? 0 : (uint64_t)step_;
+    struct jitamoro_pass pass = a->pass, after = a->pass, tallied = a->pass;
+    struct jitamoro_tally tally = start_of(2), counted = tally;
+    if (wanted == 0) {
+        after = (struct jitamoro_pass){a->offset, a->pass.window, a->pass.pending != 0, 0};
+        counted.figures[JITAMORO_TALLY_NONE]++;
+    }
+    struct jitamoro_step s =
+        jitamoro_pass_step(&pass, 0, a->section, a->len, a->offset, a->flags, a->output_kind, true, 0, 0);
+    expect(line, "step of an empty record", s.relaxed.choice.refusal, wanted);
+    expect(line, "whether it is skipped", s.skipped, false);
+    expect_pass(line, &pass, after);
+    s = jitamoro_tally_step(&tallied, &tally, 0, a->section, a->len, a->offset, a->flags, a->output_kind, true, 0, 0);
+    expect(line, "the same with a tally", s.relaxed.choice.refusal, wanted);
+    expect_pass(line, &tallied, after);
+    expect_tally(line, &tally, &counted);
+}
+
 /* The refusal of each function: of a step 0 too where the record is skipped. */
 static void refusals(int line, const struct asked *a, int step_, int relax_, int choose_, int apply_) {
     tally_refusal(line, a, step_);
+    empty_refusal(line, a, step_);
     struct jitamoro_pass pass = a->pass;
     struct jitamoro_step s = jitamoro_pass_step(&pass, JITAMORO_R_X86_64_TLSDESC_CALL, a->section, a->len, a->offset,
                                                 a->flags, a->output_kind, true, 0, 0);
@@ -520,6 +610,8 @@ static void ranges(void) {
 int main(void) {
     version();
     pass_words();
+    empty_words();
+    other_records();
     any_words();
     tallies();
     records();
@@ -532,7 +624,7 @@ int main(void) {
     if (failures != 0) {
         return 1;
     }
-    puts("interface: the version, a pass's words, a tally's figures, records, texts, the refusals' order and ranges "
-         "are right");
+    puts("interface: the version, a pass's words, empty records, a tally's figures, records, texts, the refusals' "
+         "order and ranges are right");
     return 0;
 }

@@ -38,7 +38,7 @@ pub enum Step {
     Nothing,
     /// The record was relaxed.
     Relaxed(Relaxed),
-    /// The record was skipped, as the one before it asked.
+    /// The record was skipped, as the last one before it that isn't empty asked.
     Skipped,
 }
 
@@ -59,7 +59,8 @@ impl Pass {
         Self(sys::jitamoro_pass_fresh())
     }
 
-    /// Takes one record.
+    /// Takes one record. While a skip is pending, an empty one, of type [`elf::R_X86_64_NONE`](crate::elf::R_X86_64_NONE),
+    /// is [`Step::Nothing`], and the skip waits for the next record.
     ///
     /// # Errors
     /// [`Refusal::PassEnded`], those of [`relax`](crate::relax()), [`Refusal::OffsetBelowLast`],

@@ -67,7 +67,7 @@ impl Tally {
         self.0.figures[usize::from(kind.number())]
     }
 
-    /// The records that nothing was to be done for.
+    /// The records that nothing was to be done for, empty ones met while a skip is pending among them.
     #[must_use]
     pub fn none(&self) -> u64 {
         self.0.figures[NONE]

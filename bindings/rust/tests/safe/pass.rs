@@ -1,6 +1,7 @@
 //! A walk over a section with a thread-local sequence, a GOT load and two calls of a descriptor.
 
 use crate::bytes;
+use crate::choose;
 use crate::record;
 use jitamoro::Pass;
 use jitamoro::Refusal;
@@ -91,6 +92,41 @@ fn a_skipped_record_changes_no_byte() {
     walk.relaxes(42, 19, RelaxationKind::RexMovIndirectToAbsolute(3), 19);
 }
 
+/// Each is none, and the skip waits for the call.
+#[test]
+fn empty_records_inside_a_pair() {
+    let mut walk = Walk::fresh();
+    walk.relaxes(19, 4, RelaxationKind::TlsGdToLocalExec, 12);
+    let section = walk.section.clone();
+    for offset in [4, 12] {
+        assert_eq!(walk.step(0, offset), Ok(Step::Nothing));
+        assert_eq!(walk.end(), Err(Refusal::SkipPending));
+    }
+    assert_eq!(walk.step(0, 11), Err(Refusal::OffsetBelowLast));
+    assert_eq!(walk.step(0, 28), Err(Refusal::OffsetAboveLength));
+    assert_eq!(walk.end(), Err(Refusal::SkipPending));
+    assert_eq!(walk.step(4, 12), Ok(Step::Skipped));
+    assert_eq!(walk.section, section);
+    assert_eq!(walk.step(0, 12), Ok(Step::Nothing));
+    assert_eq!(walk.end(), Ok(()));
+    assert_eq!(walk.step(0, 12), Err(Refusal::PassEnded));
+}
+
+/// Its own type alone makes a record empty: not that nothing is chosen for it (1, 256), nor that it becomes one of type
+/// 0 (35).
+#[test]
+fn other_records_after_an_empty_one() {
+    for (r_type, chosen) in [(1, false), (256, false), (1 << 31, false), (35, true)] {
+        let mut walk = Walk::fresh();
+        let choice = choose(&record(r_type, 23, 1, 0), &walk.section).unwrap();
+        assert_eq!(choice.map(|it| it.new_type()), chosen.then_some(0));
+        walk.relaxes(19, 4, RelaxationKind::TlsGdToLocalExec, 12);
+        assert_eq!(walk.step(0, 12), Ok(Step::Nothing));
+        assert_eq!(walk.step(r_type, 23), Ok(Step::Skipped));
+        assert_eq!(walk.end(), Ok(()));
+    }
+}
+
 #[test]
 fn an_empty_window_is_no_overlap() {
     let mut walk = Walk::fresh();
@@ -124,10 +160,52 @@ fn every_field_of_a_pass() {
     assert!(sequence.relaxed.choice.chosen && !sequence.skipped);
     assert_eq!(sys::jitamoro_pass_end(&mut walked), 24);
     assert_eq!(walked, pass(4, 12, 1, 0));
+    let empty = raw_step(&mut walked, 0, &mut section, 9);
+    assert_eq!(empty, sys::StepAnswer::default());
+    assert_eq!(walked, pass(9, 12, 1, 0));
     assert!(raw_step(&mut walked, 4, &mut section, 14).skipped);
     assert_eq!(walked, pass(14, 12, 0, 0));
     assert_eq!(sys::jitamoro_pass_end(&mut walked), 0);
     assert_eq!(walked, pass(14, 12, 0, 1));
+}
+
+/// While a skip is pending, with a tally and without; it stays pending. 21 stands below.
+#[test]
+fn refusals_of_an_empty_record() {
+    let (mut section, mut long) = (bytes(SECTION), vec![0; 268_435_457]);
+    for (refusal, offset, flags, output_kind) in [
+        (1, 12, 16, 6),
+        (2, 28, 16, 6),
+        (3, 3, 16, 6),
+        (4, 3, 1, 6),
+        (22, 3, 1, 0),
+    ] {
+        let lent = if refusal == 1 {
+            &mut long
+        } else {
+            &mut section
+        };
+        let (mut plain, mut tallied) = (pass(4, 12, 1, 0), pass(4, 12, 1, 0));
+        let mut tally = sys::Tally::default();
+        let answers = [
+            sys::pass_step(&mut plain, 0, lent, offset, flags, output_kind, true, 0, -4),
+            sys::tally_step(
+                &mut tallied,
+                &mut tally,
+                0,
+                lent,
+                offset,
+                flags,
+                output_kind,
+                true,
+                0,
+                -4,
+            ),
+        ];
+        assert_eq!(answers.map(|it| it.relaxed.choice.refusal), [refusal; 2]);
+        assert_eq!([plain, tallied], [pass(4, 12, 1, 0); 2]);
+        assert_eq!(tally, sys::Tally::default());
+    }
 }
 
 /// Passes that no walk leaves: each word is read as what it is called, and any but 0 is a yes.
@@ -138,6 +216,9 @@ fn any_words_are_a_pass() {
         let mut far = pass(3, 1 << 40, yes, 0);
         assert_eq!(sys::jitamoro_pass_end(&mut far), 24);
         assert_eq!(far, pass(3, 1 << 40, yes, 0));
+        let mut empty = far;
+        assert!(!raw_step(&mut empty, 0, &mut section, 4).skipped);
+        assert_eq!(empty, pass(4, 1 << 40, 1, 0));
         assert!(raw_step(&mut far, 1, &mut section, 5).skipped);
         assert_eq!(far, pass(5, 1 << 40, 0, 0));
         for (given, refusal) in [
@@ -145,10 +226,12 @@ fn any_words_are_a_pass() {
             (pass(7, 9, 0, yes), 21),
             (pass(1 << 40, 9, yes, yes), 21),
         ] {
-            let mut refused = given;
-            let answer = raw_step(&mut refused, 1, &mut section, 5);
-            assert_eq!(answer.relaxed.choice.refusal, refusal);
-            assert_eq!(refused, given);
+            for r_type in [0, 1] {
+                let mut refused = given;
+                let answer = raw_step(&mut refused, r_type, &mut section, 5);
+                assert_eq!(answer.relaxed.choice.refusal, refusal);
+                assert_eq!(refused, given);
+            }
         }
         let mut ended = pass(7, 9, yes, yes);
         assert_eq!(sys::jitamoro_pass_end(&mut ended), 21);

@@ -67,6 +67,37 @@ fn a_whole_walk() {
     );
 }
 
+/// Types and offsets; the refusal; then none, skipped, and whether a skip is pending.
+type PairRow = (u32, u64, Option<Refusal>, (u64, u64, bool));
+const PAIR: [PairRow; 7] = [
+    (19, 4, None, (0, 0, true)),
+    (0, 4, None, (1, 0, true)),
+    (0, 12, None, (2, 0, true)),
+    (0, 11, Some(Refusal::OffsetBelowLast), (2, 0, true)),
+    (0, 28, Some(Refusal::OffsetAboveLength), (2, 0, true)),
+    (4, 12, None, (2, 1, false)),
+    (0, 12, None, (3, 1, false)),
+];
+
+#[test]
+fn empty_records_inside_a_pair() {
+    let (mut pass, mut section, mut tally) = (Pass::fresh(), bytes(SECTION), Tally::fresh());
+    for (r_type, offset, refusal, (none, skipped, pending)) in PAIR {
+        let before = (pass.clone(), tally.clone());
+        let record = record(r_type, offset, 1, 0);
+        let step = pass.step_tallied(&mut tally, &record, &mut section);
+        assert_eq!(step.err(), refusal, "{record}");
+        assert_eq!((&pass, &tally) == (&before.0, &before.1), refusal.is_some());
+        assert_eq!((tally.none(), tally.skipped()), (none, skipped), "{record}");
+        let end = pass.clone().end();
+        assert_eq!(end.err(), pending.then_some(Refusal::SkipPending));
+    }
+    assert_eq!(
+        tally.to_string(),
+        "TlsGdToLocalExec 1, none 3, skipped 1, bytes in rewritten windows 12"
+    );
+}
+
 /// The lengths of the windows, in the order of the rows.
 const LENGTHS: [u64; 20] = [
     1, 2, 3, 3, 3, 5, 3, 3, 2, 6, 0, 12, 22, 12, 13, 22, 12, 3, 1, 2,
