@@ -71,6 +71,7 @@ fn main() {
         time_padding(&driver, length);
     }
     relaxing::time_all(&driver);
+    real::time_pairs(&driver);
     for archive in driver.archives() {
         real::time_archive(&driver, archive);
     }

@@ -1,5 +1,5 @@
 //! Times relaxing, choosing and the pass, with a tally and without, over the records of an archive, in its own
-//! sections and order, as each output kind would have them.
+//! sections and order, as each output kind would have them; and steps over pairs with empty records.
 
 use crate::driver::Driver;
 use crate::driver::Inputs;
@@ -15,10 +15,13 @@ use differential::ask_port;
 use differential::pass::BYTES;
 use differential::pass::NONE;
 use differential::pass::SKIPPED;
+use differential::relaxation::Record;
 use differential::relaxation::SECTION_LIMIT;
 use differential::relaxation::is_inside;
 use differential::relaxation::kind_number;
 use differential::relaxation::window;
+use differential::sequences::SEQUENCES;
+use jitamoro::elf::R_X86_64_NONE;
 use jitamoro::sys;
 use jitamoro::sys::Pass;
 use jitamoro::sys::StepAnswer;
@@ -33,6 +36,8 @@ use std::hint::black_box;
 use std::path::Path;
 use std::slice;
 use std::time::Duration;
+
+const PAIRS: usize = 1024;
 
 /// Short names of document 01's output kinds.
 const OUTPUT_KINDS: [&str; 6] = [
@@ -82,6 +87,32 @@ pub fn time_archive(driver: &Driver, path: &str) {
         ("untallied", &port_pass),
     ];
     driver.sides(&tally_pass, RUNS, || both_tally(all()), sides);
+}
+
+/// Steps over general dynamic sequences in one section, each with two empty records before its call.
+pub fn time_pairs(driver: &Driver) {
+    let sequence = SEQUENCES.iter().find(|it| it.r_type == 19).unwrap();
+    let length = sequence.before.len() + sequence.after.len();
+    let mut section = vec![0; PAIRS * length];
+    let mut records = Vec::new();
+    for begin in (0..section.len()).step_by(length) {
+        let offset = begin + sequence.before.len();
+        sequence.write(&mut section, offset);
+        let of_pair = [(19, 0), (R_X86_64_NONE, 4), (R_X86_64_NONE, 8), (4, 8)];
+        records.extend(of_pair.map(|(r_type, past)| Record {
+            r_type,
+            flags: 1,
+            ..sequence.record(offset + past)
+        }));
+    }
+    let steps = || Steps::new(Pool::real(&[(&section, records.clone())]));
+    driver.case(
+        "step, pairs with empty records",
+        RUNS,
+        steps,
+        port_step_all,
+        rust_step_all,
+    );
 }
 
 /// The records of these output kinds, one kind after the other.
@@ -449,7 +480,7 @@ fn rust_step(
     if it.offset < pass.last {
         return Step::Refused(22);
     }
-    if pass.skip {
+    if pass.skip && it.r_type != R_X86_64_NONE {
         pass.skip = false;
         pass.last = it.offset;
         counts.count(SKIPPED, 0);
