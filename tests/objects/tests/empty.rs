@@ -32,12 +32,11 @@ fn port_step(
     ask_port!(tally_step, record, section, pass, tally)
 }
 
-/// What a walk comes to: what its steps and its end answer, the pass, the figures that aren't 0, and the bytes.
+/// What a walk comes to: what its steps and its end answer, with the pass then, the figures that aren't 0, and the bytes.
 #[derive(Debug, PartialEq)]
 struct Walked {
-    steps: Vec<StepAnswer>,
-    end: u8,
-    pass: Pass,
+    steps: Vec<(StepAnswer, Pass)>,
+    end: (u8, Pass),
     figures: Vec<(usize, u64)>,
     bytes: Vec<u8>,
 }
@@ -46,14 +45,12 @@ fn walk(linked: &Linked, step: Step, end: fn(&mut Pass) -> u8) -> Walked {
     let (mut pass, mut tally) = (Pass::default(), Tally::default());
     let mut bytes = linked.section.bytes.clone();
     let records = linked.records.iter();
-    let steps = records.map(|record| step(&mut pass, &mut tally, record, &mut bytes));
+    let steps = records.map(|record| (step(&mut pass, &mut tally, record, &mut bytes), pass));
     let steps = steps.collect();
-    let end = end(&mut pass);
     let figures = tally.figures.into_iter().enumerate();
     Walked {
         steps,
-        end,
-        pass,
+        end: (end(&mut pass), pass),
         figures: figures.filter(|&(_, figure)| figure != 0).collect(),
         bytes,
     }
@@ -71,7 +68,7 @@ fn check(name: &str, records: &[(u32, u64)], figures: &[(usize, u64)], bytes: &[
         jitamoro::sys::jitamoro_pass_end(pass)
     });
     assert_eq!(port, walk(linked, pass::tally_step, pass::end));
-    assert_eq!((port.end, port.figures.as_slice()), (0, figures));
+    assert_eq!((port.end.0, port.figures.as_slice()), (0, figures));
     assert_eq!(port.bytes, bytes);
 }
 
