@@ -79,6 +79,10 @@ enum {
 /* Figures that wrap: of records, and of bytes. */
 enum { WRAPPED_COUNT, WRAPPED_BYTES, WRAPS };
 
+/* While a skip is pending: an empty record is taken, or one more; after it a record is skipped, or refused only because
+   of it (22), or the end is refused (24); a record is skipped that is none by choice, or would become type 0. */
+enum { EMPTY_TAKEN, EMPTY_AGAIN, THEN_SKIPPED, THEN_22, THEN_24, SKIPPED_NONE, SKIPPED_TO_0, PENDINGS };
+
 static struct {
     enum { END, BEGIN, HEAP } placement;
     uint64_t seed, round, calls;
@@ -87,6 +91,7 @@ static struct {
     uint64_t number; /* what such a function was given */
     uint64_t relaxed[KINDS], rewritten[KINDS], refused[256];
     uint64_t raised[JITAMORO_TALLY_LENGTH], wrapped[WRAPS]; /* figures */
+    uint64_t pending[PENDINGS], empty_refused[256];         /* while a skip is pending */
 } run;
 
 /* ---- Reports */
@@ -234,11 +239,16 @@ static uint64_t any_word(uint64_t n) {
     return !one_in(n) ? 0 : one_in(2) ? 1 : any_number();
 }
 
-static struct jitamoro_pass any_pass(uint64_t offset) {
+/* Whether a record is empty: of type 0 by itself, not by relaxing. */
+static bool is_empty(const struct record *r) {
+    return r->r_type == JITAMORO_R_X86_64_NONE;
+}
+
+static struct jitamoro_pass any_pass(const struct record *r) {
     return (struct jitamoro_pass){
-        .last = any_near(offset, 3),
-        .window = any_near(offset, 16),
-        .pending = any_word(6),
+        .last = any_near(r->offset, 3),
+        .window = any_near(r->offset, 16),
+        .pending = any_word(is_empty(r) ? 2 : 6),
         .ended = any_word(12),
     };
 }
@@ -255,7 +265,7 @@ static struct jitamoro_tally any_tally(void) {
 
 static struct record any_record(size_t len) {
     return (struct record){
-        .r_type = one_in(4) ? (uint32_t)any_number() : (uint32_t)below(61),
+        .r_type = one_in(8) ? 0 : one_in(4) ? (uint32_t)any_number() : (uint32_t)below(61),
         .offset = any_offset(len),
         .flags = any_byte(16, one_in(2) ? 1 : 3),
         .output_kind = any_byte(6, 0),
@@ -389,6 +399,16 @@ static struct record any_record_in(struct lent *l) {
         set_byte(l, r.offset + below(32) - 8, (uint8_t)any64());
     }
     r.r_type = s->r_type;
+    return r;
+}
+
+/* An empty record, mostly at the last one's offset or a little past it. */
+static struct record any_empty(size_t len, uint64_t last) {
+    struct record r = any_record(len);
+    r.r_type = JITAMORO_R_X86_64_NONE;
+    if (!one_in(4)) {
+        r.offset = last + (one_in(2) ? 0 : below(12));
+    }
     return r;
 }
 
@@ -649,14 +669,15 @@ static void check_relaxing(struct lent *l, const struct record *r, struct tried 
 
 /* ---- A pass and its tally */
 
-/* A walk between two steps. */
+/* A walk between two steps; the empty records taken since a skip is pending, and the last offset before them. */
 struct walked {
     struct jitamoro_pass pass;
     struct jitamoro_tally tally;
+    uint64_t empties, last;
 };
 
 static struct walked fresh(void) {
-    struct walked w = {jitamoro_pass_fresh(), jitamoro_tally_fresh()};
+    struct walked w = {.pass = jitamoro_pass_fresh(), .tally = jitamoro_tally_fresh()};
     struct answer words = {0, {0}}, zeros = {4 + JITAMORO_TALLY_LENGTH, {0}};
     run.calls += 2;
     add_pass(&words, &w.pass);
@@ -672,6 +693,32 @@ static unsigned refusal_of_step(const struct jitamoro_pass *p, const struct reco
     }
     unsigned refusal = refusal_of_record(r, len);
     return refusal == 0 && r->offset < p->last ? 22 : refusal;
+}
+
+/* The pass after a record that a pending skip meets. Answers whether it is skipped: an empty one isn't, and leaves the
+   skip to the next. */
+static bool skip(struct jitamoro_pass *p, const struct record *r) {
+    p->pending = is_empty(r);
+    p->last = r->offset;
+    return !is_empty(r);
+}
+
+/* What a record met while a skip is pending, given the walk before, the refusal and what choosing gave. */
+static void count_pending(struct walked *w, const struct record *r, uint64_t refusal, const struct answer *choice) {
+    if (is_empty(r)) {
+        run.empty_refused[refusal]++;
+        if (refusal == 0) {
+            run.pending[w->empties == 0 ? EMPTY_TAKEN : EMPTY_AGAIN]++;
+            w->last = w->empties++ == 0 ? w->pass.last : w->last;
+        }
+    } else if (refusal == 0) {
+        run.pending[THEN_SKIPPED] += w->empties != 0;
+        run.pending[SKIPPED_NONE] += choice->field[CHOSEN] == 0;
+        run.pending[SKIPPED_TO_0] += choice->field[CHOSEN] != 0 && choice->field[NEW_TYPE] == 0;
+        w->empties = 0;
+    } else {
+        run.pending[THEN_22] += refusal == 22 && w->empties != 0 && r->offset >= w->last;
+    }
 }
 
 /* The pass after a record that isn't skipped or refused but for overlapping, which answers false. */
@@ -718,10 +765,12 @@ static struct walked check_step(struct lent *l, const struct record *r, struct w
     struct answer a = call(&c, l);
     struct answer expected = {10, {refusal_of_step(&w.pass, r, l->len)}};
     const uint8_t *bytes = l->before;
-    bool skipped = expected.field[REFUSAL] == 0 && w.pass.pending != 0;
-    if (skipped) {
-        w.pass.pending = 0;
-        w.pass.last = r->offset;
+    bool skipped = false, pending = w.pass.pending != 0;
+    if (pending) {
+        count_pending(&w, r, expected.field[REFUSAL], &t->choice);
+    }
+    if (expected.field[REFUSAL] == 0 && pending) {
+        skipped = skip(&w.pass, r);
     } else if (expected.field[REFUSAL] == 0) {
         if (take(&w.pass, r->offset, t)) {
             expected = t->relaxed;
@@ -743,12 +792,13 @@ static struct walked check_step(struct lent *l, const struct record *r, struct w
     return w;
 }
 
-static void check_end(struct lent *l, struct jitamoro_pass pass) {
-    struct call c = {.function = PASS_END, .pass = pass};
+static void check_end(struct lent *l, struct walked w) {
+    struct call c = {.function = PASS_END, .pass = w.pass};
     struct answer a = call(&c, l);
-    struct answer expected = {1, {pass.ended != 0 ? 21 : pass.pending != 0 ? 24 : 0}};
-    pass.ended = expected.field[REFUSAL] == 0 ? 1 : pass.ended;
-    add_pass(&expected, &pass);
+    struct answer expected = {1, {w.pass.ended != 0 ? 21 : w.pass.pending != 0 ? 24 : 0}};
+    run.pending[THEN_24] += expected.field[REFUSAL] == 24 && w.empties != 0;
+    w.pass.ended = expected.field[REFUSAL] == 0 ? 1 : w.pass.ended;
+    add_pass(&expected, &w.pass);
     check(same(&a, &expected), "an end: wrong refusal or pass");
 }
 
@@ -757,19 +807,22 @@ static struct walked check_record(struct lent *l, const struct record *r, struct
     static struct tried t;
     check_relaxing(l, r, &t);
     check_rewriting(l, r, any_byte(KINDS, 4), any_byte(8, 3));
-    struct walked any = {any_pass(r->offset), any_tally()};
-    check_end(l, any.pass);
-    check_end(l, check_step(l, r, any, &t).pass);
+    struct walked any = {.pass = any_pass(r), .tally = any_tally()};
+    check_end(l, any);
+    check_end(l, check_step(l, r, any, &t));
     return check_step(l, r, w, &t);
 }
 
-/* A few records in one section, each on the bytes that the one before left. */
+/* A few records in one section, each on the bytes that the one before left; before one that is to be skipped often
+   empty ones. */
 static void walk(struct lent *l) {
     struct walked w = fresh();
-    for (uint64_t left = 1 + below(4); left != 0; left--) {
-        struct record r = any_record_in(l);
+    for (uint64_t left = 1 + below(4); left != 0;) {
+        bool empty = w.pass.pending != 0 && !one_in(3);
+        struct record r = empty ? any_empty(l->len, w.pass.last) : any_record_in(l);
         w = check_record(l, &r, w);
         memcpy(l->before, l->after, l->watched_len);
+        left -= !empty;
     }
 }
 
@@ -881,7 +934,7 @@ static void check_numbers(void) {
 
 /* Sections that are too long by a byte or more, none of whose bytes can be accessed. Those past 2^32 would look
    short in 32 bits; valgrind takes seconds to reserve so much, so that the heap's leg leaves them out. */
-static void check_too_long(void) {
+static struct lent *lend_too_long(void) {
     static const size_t lengths[] = {JITAMORO_MAX_SECTION_LENGTH + 1, JITAMORO_MAX_SECTION_LENGTH + PAGE, (1ull << 32) + 7, (1ull << 32) + MARGIN};
     static uint8_t *pages;
     static struct lent l;
@@ -892,8 +945,13 @@ static void check_too_long(void) {
     l.read = l.write = pages;
     l.watched = l.before;
     l.len = lengths[below(count)];
-    struct record r = any_record(l.len);
-    check_record(&l, &r, fresh());
+    return &l;
+}
+
+static void check_too_long(void) {
+    struct lent *l = lend_too_long();
+    struct record r = any_record(l->len);
+    check_record(l, &r, fresh());
     run.call = NULL;
 }
 
@@ -921,6 +979,29 @@ static void check_longest(void) {
 
 /* ---- The run */
 
+/* After the first half of a pair: what can become of empty records and of the call, which is each time the next while
+   the skip stays. A row has the type, how far past the first half it lies, and what is changed in its numbers. */
+static void tour_pair(struct lent *l, const struct record *first, struct walked w) {
+    static const struct {
+        uint32_t r_type, past;
+        uint8_t flags, output_kind;
+    } rows[] = {{0, 0, 0, 0},  {0, 1, 0, 0}, {0, 0, 0, 0}, {0, PAGE, 0, 0}, {0, 1, 16, 0},
+                {0, 1, 0, 16}, {4, 0, 0, 0}, {4, 1, 1, 0}, {35, 1, 0, 0}};
+    for (size_t i = 0; i < COUNT(rows); i++) {
+        struct record r = *first;
+        r.r_type = rows[i].r_type;
+        r.offset += rows[i].past;
+        r.flags ^= rows[i].flags;
+        r.output_kind ^= rows[i].output_kind;
+        struct walked then = check_record(l, &r, w), ended = w;
+        w = then.pass.pending != 0 ? then : w;
+        check_end(l, w);
+        ended.pass.ended = 1;
+        check_record(l, &r, ended);
+        check_record(lend_too_long(), &r, w);
+    }
+}
+
 /* Every sequence, whole, with the flags and output kinds that lead to its kinds. */
 static void tour(void) {
     static const uint8_t flags[] = {0, 1, 3, 8}, output_kinds[] = {0, 1, 3, 4};
@@ -932,7 +1013,10 @@ static void tour(void) {
         r.output_kind = output_kinds[rest / COUNT(flags)];
         struct lent *l = lend(s->before_len + s->after_len + below(3));
         put_sequence(l, s, r.offset);
-        check_record(l, &r, fresh());
+        struct walked w = check_record(l, &r, fresh());
+        if (w.pass.pending != 0) {
+            tour_pair(l, &r, w);
+        }
         release(l);
     }
 }
@@ -968,6 +1052,9 @@ static int summary(double seconds) {
     static const uint8_t kinds[] = {4, 0, 1, 2, 3, 5, 6, 7, 8, 9, 10, 11, 12, 13, 14, 15, 16, 17, 18};
     static const uint8_t figures[] = {JITAMORO_TALLY_NONE, JITAMORO_TALLY_SKIPPED, JITAMORO_TALLY_BYTES};
     static const uint8_t wraps[] = {WRAPPED_COUNT, WRAPPED_BYTES};
+    static const uint8_t pendings[] = {EMPTY_TAKEN, EMPTY_AGAIN,  THEN_SKIPPED, THEN_22,
+                                       THEN_24,     SKIPPED_NONE, SKIPPED_TO_0};
+    static const uint8_t empty_refusals[] = {1, 2, 3, 4, 21, 22};
     /* Kind 4 is never chosen. */
     size_t relaxed = seen("relaxing, kind", run.relaxed, kinds + 1, COUNT(kinds) - 1);
     size_t rewritten = seen("rewriting, kind", run.rewritten, kinds, COUNT(kinds));
@@ -975,10 +1062,15 @@ static int summary(double seconds) {
     size_t raised = seen("a tally, kind", run.raised, kinds + 1, COUNT(kinds) - 1);
     raised += seen("a tally, figure", run.raised, figures, COUNT(figures));
     size_t wrapped = seen("a figure's wrap, 0 of records or 1 of bytes:", run.wrapped, wraps, COUNT(wraps));
-    printf("%" PRIu64 " calls in %.1f s; %zu kinds relaxed, %zu rewritten, %zu refusals, %zu figures\n", run.calls,
+    size_t pending = seen("while a skip is pending, outcome", run.pending, pendings, COUNT(pendings));
+    pending += seen("an empty record while a skip is pending, refusal", run.empty_refused, empty_refusals,
+                    COUNT(empty_refusals));
+    printf("%" PRIu64 " calls in %.1f s; %zu kinds relaxed, %zu rewritten, %zu refusals, %zu figures, ", run.calls,
            seconds, relaxed, rewritten, refused, raised);
+    printf("%zu outcomes while a skip is pending\n", pending);
     bool all = relaxed == COUNT(kinds) - 1 && rewritten == COUNT(kinds) && refused == COUNT(refusals);
-    return all && raised == COUNT(kinds) - 1 + COUNT(figures) && wrapped == COUNT(wraps) ? 0 : 1;
+    all = all && raised == COUNT(kinds) - 1 + COUNT(figures) && wrapped == COUNT(wraps);
+    return all && pending == COUNT(pendings) + COUNT(empty_refusals) ? 0 : 1;
 }
 
 static double now(void) {

@@ -1,4 +1,5 @@
-//! Document 01's pass over wild's choosing, rewriting and modifier, answering as the port does, and its tally.
+//! The pass of documents 01 and 02 over wild's choosing, rewriting and modifier, answering as the port does, and its
+//! tally.
 
 use crate::relaxation;
 use crate::relaxation::REX_ADD;
@@ -33,6 +34,9 @@ const WINDOWS: [(i64, i64); 19] = [
 ];
 const REX_ADD_WITH_6: (i64, i64) = (-5, 0);
 
+/// The own type of an empty record, which a pending skip passes over.
+pub const EMPTY_TYPE: u32 = 0;
+
 /// Where a tally's figures stand that are no kind's.
 pub const NONE: usize = 19;
 pub const SKIPPED: usize = 20;
@@ -57,10 +61,11 @@ pub fn step(pass: &mut Pass, record: &Record, section: &mut [u8]) -> StepAnswer 
         return refused(refusal);
     }
     if pass.pending != 0 {
+        let skipped = record.r_type != EMPTY_TYPE;
         pass.last = record.offset;
-        pass.pending = 0;
+        pass.pending = u64::from(!skipped);
         return StepAnswer {
-            skipped: true,
+            skipped,
             ..Default::default()
         };
     }
@@ -221,5 +226,135 @@ mod tests {
                 assert_eq!(tally, wanted, "{answer:?}");
             }
         }
+    }
+
+    const LENGTH: usize = 64;
+
+    /// A call that would be relaxed.
+    const CALL: Record = Record {
+        r_type: 4,
+        offset: 8,
+        flags: 1,
+        output_kind: 0,
+        executable: true,
+        address: 0,
+        addend: -4,
+    };
+    const EMPTY: Record = Record {
+        r_type: EMPTY_TYPE,
+        ..CALL
+    };
+
+    fn pending(word: u64) -> Pass {
+        Pass {
+            last: 3,
+            window: 12,
+            pending: word,
+            ended: 0,
+        }
+    }
+
+    /// What a step from a pass answers, if it leaves the section alone, with the pass and the tally then.
+    fn stepped(mut pass: Pass, record: &Record) -> (StepAnswer, Pass, Tally) {
+        let (mut tally, mut section) = (Tally::default(), [0x48; LENGTH]);
+        let answer = tally_step(&mut pass, &mut tally, record, &mut section);
+        assert_eq!(section, [0x48; LENGTH]);
+        (answer, pass, tally)
+    }
+
+    /// A tally with one figure raised.
+    fn one(figure: usize) -> Tally {
+        let mut tally = Tally::default();
+        tally.figures[figure] = 1;
+        tally
+    }
+
+    #[test]
+    fn an_empty_record_leaves_the_skip() {
+        for word in [1, 7, 1 << 32, u64::MAX] {
+            for offset in [3, 8, LENGTH as u64] {
+                let record = Record { offset, ..EMPTY };
+                let mut after = Pass {
+                    last: offset,
+                    ..pending(1)
+                };
+                let none = (StepAnswer::default(), after, one(NONE));
+                assert_eq!(stepped(pending(word), &record), none);
+                assert_eq!(stepped(after, &record), none, "and the next one too");
+                assert_eq!((end(&mut after), after.ended), (24, 0));
+            }
+        }
+    }
+
+    #[test]
+    fn any_other_record_is_skipped() {
+        let skipped = StepAnswer {
+            skipped: true,
+            ..Default::default()
+        };
+        // Relaxed, none by choice as its symbol is interposable, and of the types that become 0.
+        for (r_type, flags) in [(4, 1), (4, 0), (20, 1), (35, 1), (256, 1), (1 << 31, 1)] {
+            let record = Record {
+                r_type,
+                flags,
+                ..CALL
+            };
+            let mut after = Pass {
+                last: 8,
+                ..pending(0)
+            };
+            assert_eq!(
+                stepped(pending(1), &record),
+                (skipped, after, one(SKIPPED)),
+                "{record:?}"
+            );
+            assert_eq!((end(&mut after), after.ended), (0, 1));
+        }
+    }
+
+    #[test]
+    fn a_refused_empty_record_changes_nothing() {
+        let ended = Pass {
+            ended: 1,
+            ..pending(7)
+        };
+        let with = |change: fn(&mut Record)| {
+            let mut record = EMPTY;
+            change(&mut record);
+            record
+        };
+        let rows = [
+            (21, ended, EMPTY),
+            (2, pending(7), with(|it| it.offset = LENGTH as u64 + 1)),
+            (3, pending(7), with(|it| it.flags = 16)),
+            (4, pending(7), with(|it| it.output_kind = 6)),
+            (22, pending(7), with(|it| it.offset = 2)),
+        ];
+        for (refusal, pass, record) in rows {
+            let wanted = (refused(refusal), pass, Tally::default());
+            assert_eq!(stepped(pass, &record), wanted);
+        }
+        let mut pass = pending(7);
+        let mut long = vec![0; relaxation::SECTION_LIMIT + 1];
+        assert_eq!(step(&mut pass, &EMPTY, &mut long), refused(1));
+        assert_eq!(pass, pending(7));
+    }
+
+    #[test]
+    fn an_empty_record_with_no_skip_pending() {
+        let after = Pass {
+            last: 8,
+            ..pending(0)
+        };
+        let none = (StepAnswer::default(), after, one(NONE));
+        assert_eq!(stepped(pending(0), &EMPTY), none);
+    }
+
+    /// The call's record lies below the last offset after an empty one past its place.
+    #[test]
+    fn an_empty_record_past_the_call() {
+        let past = Record { offset: 9, ..EMPTY };
+        let (_, pass, _) = stepped(pending(1), &past);
+        assert_eq!(stepped(pass, &CALL).0, refused(22));
     }
 }

@@ -100,6 +100,14 @@ impl Sequence {
         }
     }
 
+    /// How far past the offset the call's field lies, where this is the first half of a thread-local pair: behind the
+    /// lea's field and an opcode.
+    pub fn call(&self) -> Option<u64> {
+        let rest = self.after.get(FIELD.len()..)?;
+        let opcode = rest.iter().position(|&byte| byte == 0)?;
+        matches!(self.r_type, 19 | 20).then_some((FIELD.len() + opcode) as u64)
+    }
+
     /// Writes the bytes into a section so that they meet at the offset; what lies outside is cut.
     pub fn write(&self, section: &mut [u8], offset: usize) {
         for (place, &byte) in self.before.iter().chain(self.after).enumerate() {
@@ -109,5 +117,16 @@ impl Sequence {
                 *there = byte;
             }
         }
+    }
+}
+
+#[cfg(test)]
+mod tests {
+    use super::*;
+
+    #[test]
+    fn where_calls_lie() {
+        let calls: Vec<_> = SEQUENCES.iter().filter_map(Sequence::call).collect();
+        assert_eq!(calls, [8, 8, 6, 5, 6, 6]);
     }
 }

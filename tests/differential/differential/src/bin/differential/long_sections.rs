@@ -4,10 +4,12 @@
 
 use crate::Comparison;
 use crate::GUARD;
+use crate::pass::EMPTY;
 use crate::pass::Step;
 use crate::pass::port_step;
 use crate::pass::port_tally_step;
 use crate::relaxing;
+use crate::tally::Run;
 use differential::around;
 use differential::pass;
 use differential::relaxation;
@@ -33,9 +35,22 @@ pub const FLAGS_AND_KINDS: [(u8, u8); 8] = [
     (255, 255),
 ];
 
-/// A step from a fresh pass and tally, and both then.
-fn stepped(step: Step, record: &Record, section: &mut [u8]) -> (StepAnswer, Pass, Tally) {
-    let (mut pass, mut tally) = (Pass::default(), Tally::default());
+/// With a skip pending, but for that as a fresh one.
+const PENDING: Pass = Pass {
+    last: 0,
+    window: 0,
+    pending: 1,
+    ended: 0,
+};
+
+/// A step from a pass and a fresh tally, and both then.
+fn stepped(
+    step: Step,
+    mut pass: Pass,
+    record: &Record,
+    section: &mut [u8],
+) -> (StepAnswer, Pass, Tally) {
+    let mut tally = Tally::default();
     (step(&mut pass, &mut tally, record, section), pass, tally)
 }
 
@@ -111,8 +126,8 @@ impl Comparison {
     }
 
     fn long_records(&mut self, long: &mut Long, offset: u64) {
+        let place = offset as usize;
         for sequence in &SEQUENCES {
-            let place = offset as usize;
             sequence.write(long.lent_mut(), place);
             for (flags, output_kind) in FLAGS_AND_KINDS {
                 let mut record = sequence.record(place);
@@ -121,6 +136,12 @@ impl Comparison {
                 self.long_record(long, &record);
             }
             long.clear();
+        }
+        for (flags, output_kind) in FLAGS_AND_KINDS {
+            let mut record = EMPTY.record(place);
+            record.flags = flags;
+            record.output_kind = output_kind;
+            self.long_step(long, PENDING, &record);
         }
     }
 
@@ -133,12 +154,21 @@ impl Comparison {
         self.tally.relaxing.count_choice(&rust.0.choice);
         let port = long.ask(|section| relaxing::port_relax(record, section));
         self.compare_long(long, port, rust, record);
-        let (mut rust, bytes) = long.ask(|section| stepped(pass::tally_step, record, section));
+        self.long_step(long, Pass::default(), record);
+    }
+
+    fn long_step(&mut self, long: &mut Long, pass: Pass, record: &Record) {
+        let (mut rust, bytes) = long.ask(|it| stepped(pass::tally_step, pass, record, it));
         self.tally.pass.count_step(&rust.0);
-        let port = long.ask(|section| stepped(port_tally_step, record, section));
+        if pass.pending != 0 {
+            let (choice, _) = long.ask(|section| relaxation::choose(record, section));
+            let pending = &mut self.tally.pending;
+            pending.count_step(&mut Run::default(), &pass, record, &choice, &rust.0);
+        }
+        let port = long.ask(|section| stepped(port_tally_step, pass, record, section));
         self.compare_long(long, port, (rust, bytes), record);
         rust.2 = Tally::default();
-        let port = long.ask(|section| stepped(port_step, record, section));
+        let port = long.ask(|section| stepped(port_step, pass, record, section));
         self.compare_long(long, port, (rust, bytes), record);
     }
 

@@ -8,10 +8,13 @@ use crate::relaxing::OFFSET;
 use crate::relaxing::SHORT;
 use crate::relaxing::Section;
 use crate::relaxing::WHOLE;
+use crate::tally::Run;
 use differential::ask_port;
 use differential::at_random;
 use differential::at_random::Dice;
 use differential::pass;
+use differential::pass::EMPTY_TYPE;
+use differential::relaxation;
 use differential::relaxation::Record;
 use differential::sequences::SEQUENCES;
 use differential::sequences::Sequence;
@@ -24,6 +27,13 @@ const SINGLE_STEPS: u64 = 4_000_000;
 /// The most records of a list, and the most bytes of its section: room for each sequence and a gap.
 const MOST_RECORDS: u64 = 40;
 const LONGEST: usize = MOST_RECORDS as usize * 32;
+
+/// An empty record, on bytes that would be relaxed for others.
+pub const EMPTY: Sequence = Sequence {
+    r_type: EMPTY_TYPE,
+    before: &[0x48, 0x8b, 0x2d],
+    after: &[0; 4],
+};
 
 /// The port's step; the tally is left alone.
 pub fn port_step(
@@ -72,6 +82,7 @@ struct Walks {
     port: Walk,
     plain: Walk,
     rust: Walk,
+    run: Run,
 }
 
 impl Walks {
@@ -80,6 +91,7 @@ impl Walks {
             port: start.clone(),
             plain: start.clone(),
             rust: start,
+            run: Run::default(),
         }
     }
 }
@@ -88,10 +100,15 @@ impl Walks {
 impl Comparison {
     /// Steps on all sides, each from its own state.
     fn step_all(&mut self, walks: &mut Walks, record: &Record) {
-        let Walks { port, plain, rust } = walks;
+        let Walks {
+            port,
+            plain,
+            rust,
+            run,
+        } = walks;
         let before = rust.clone();
         let expected = rust.step(pass::tally_step, record);
-        self.tally.pass.count_step(&expected);
+        self.count_step(run, &before, record, &expected);
         self.tally.pass.count_figures(&before.tally, &rust.tally);
         if !expected.relaxed.choice.chosen {
             assert_eq!(rust.bytes, before.bytes, "the Rust writes nothing");
@@ -115,16 +132,27 @@ impl Comparison {
         );
     }
 
+    fn count_step(&mut self, run: &mut Run, before: &Walk, record: &Record, answer: &StepAnswer) {
+        self.tally.pass.count_step(answer);
+        if before.pass.pending != 0 {
+            let choice = relaxation::choose(record, before.lent());
+            let pending = &mut self.tally.pending;
+            pending.count_step(run, &before.pass, record, &choice, answer);
+        }
+    }
+
     /// Ends a walk, which changes no figure.
     fn end_all(&mut self, walks: &mut Walks) {
-        self.end_both(&mut walks.port.pass, &mut walks.rust.pass);
+        let refusal = self.end_both(&mut walks.port.pass, &mut walks.rust.pass);
+        self.tally.pending.count_end(&walks.run, refusal);
         walks.plain.pass = walks.port.pass;
         self.compare(walks.port.tally, walks.rust.tally, || {
             format!("the tally after an ending, {:x?}", walks.rust.pass)
         });
     }
 
-    fn end_both(&mut self, port: &mut Pass, rust: &mut Pass) {
+    /// What the Rust answers.
+    fn end_both(&mut self, port: &mut Pass, rust: &mut Pass) -> u8 {
         let before = *rust;
         let expected = pass::end(rust);
         self.tally.pass.count_end(expected);
@@ -132,6 +160,7 @@ impl Comparison {
         self.compare((answer, *port), (expected, *rust), || {
             format!("ending, {before:x?}")
         });
+        expected
     }
 }
 
@@ -142,7 +171,7 @@ impl Comparison {
             let (records, start) = self.random_list();
             self.walk(&records, start);
         }
-        for sequence in &SEQUENCES {
+        for sequence in SEQUENCES.iter().chain([&EMPTY]) {
             self.every_state(sequence);
         }
         for _ in 0..SINGLE_STEPS {
@@ -177,17 +206,18 @@ impl Comparison {
         self.end_all(&mut walks);
     }
 
-    /// Sequences one after the other, some overlapping; some records stand elsewhere.
+    /// Sequences one after the other, some overlapping; some records stand elsewhere, and most pairs have both halves.
     fn random_list(&mut self) -> (Vec<Record>, Walk) {
         let mut records: Vec<Record> = Vec::new();
         let mut bytes = vec![0; GUARD + LONGEST + GUARD];
         self.random.fill(&mut bytes);
-        let mut end = 0;
+        let (mut end, mut pair) = (0, None);
         for _ in 0..=self.random.word() % MOST_RECORDS {
             let mut dice = Dice::new(&mut self.random);
             let mut record = match records.last() {
+                _ if pair.is_some() => in_pair(&mut pair, &mut dice),
                 Some(last) if dice.one_in(5) => elsewhere(last, &mut dice),
-                _ => self.next_record(&mut bytes[GUARD..GUARD + LONGEST], &mut end),
+                _ => self.next_record(&mut bytes[GUARD..GUARD + LONGEST], &mut end, &mut pair),
             };
             at_random::numbers(&mut self.random, &mut record);
             records.push(record);
@@ -208,8 +238,14 @@ impl Comparison {
         (records, start)
     }
 
-    /// Writes a sequence where the last one ended, or before; `end` is then this one's end.
-    fn next_record(&mut self, section: &mut [u8], end: &mut usize) -> Record {
+    /// Writes a sequence where the last one ended, or before; `end` is then this one's end. Most first halves of a pair
+    /// open it.
+    fn next_record(
+        &mut self,
+        section: &mut [u8],
+        end: &mut usize,
+        pair: &mut Option<Pair>,
+    ) -> Record {
         let mut dice = Dice::new(&mut self.random);
         let sequence = &SEQUENCES[dice.roll(SEQUENCES.len() as u64) as usize];
         let begin = match dice.roll(8) {
@@ -225,18 +261,52 @@ impl Comparison {
             at_random::change(section, offset, &mut dice);
         }
         *end = (offset + sequence.after.len()).max(*end);
+        let last = offset as u64;
+        let opened = sequence.call().map(|call| Pair {
+            last,
+            call: last + call,
+        });
+        *pair = opened.filter(|_| !dice.one_in(4));
         sequence.record(offset)
     }
 }
 
+/// A thread-local pair whose call is still to come.
+struct Pair {
+    /// Where the last record of the pair stands.
+    last: u64,
+    call: u64,
+}
+
+/// An empty record, every second time, or the call, which closes the pair. The empty one stands where the last did,
+/// on the way to the call, at it or past it.
+fn in_pair(pair: &mut Option<Pair>, dice: &mut Dice) -> Record {
+    let open = pair.as_mut().unwrap();
+    if dice.one_in(2) {
+        let mut record = EMPTY.record(open.call as usize);
+        record.r_type = [2, 4, 4, 4, 9, 31, 35, 41][dice.roll(8) as usize];
+        *pair = None;
+        return record;
+    }
+    let way = open.call.saturating_sub(open.last);
+    open.last = match dice.roll(8) {
+        0..3 => open.last,
+        3..6 => open.last + dice.roll(way + 1),
+        6 => open.call,
+        _ => open.call + 1 + dice.roll(8),
+    };
+    EMPTY.record(open.last as usize)
+}
+
 /// At the last record's offset, near it or below it: of a type that is relaxed again where another
-/// was rewritten, or that looks at no byte, or of any.
+/// was rewritten, or that looks at no byte, empty, or of any.
 fn elsewhere(last: &Record, dice: &mut Dice) -> Record {
     let sequence = &SEQUENCES[dice.roll(SEQUENCES.len() as u64) as usize];
     let mut record = sequence.record(0);
-    record.r_type = match dice.roll(3) {
+    record.r_type = match dice.roll(4) {
         0 => 35,
         1 => [9, 22, 34, 42][dice.roll(4) as usize],
+        2 => EMPTY_TYPE,
         _ => record.r_type,
     };
     record.offset = match dice.roll(8) {
@@ -278,9 +348,12 @@ impl Comparison {
     }
 
     fn random_step(&mut self) {
-        let (record, mut section) = self.random_record();
+        let (mut record, mut section) = self.random_record();
         let pass = self.random_pass(record.offset);
         let mut dice = Dice::new(&mut self.random);
+        if dice.one_in(16) {
+            record.r_type = EMPTY_TYPE;
+        }
         if dice.one_in(16) {
             let end = record.offset.wrapping_add(dice.roll(20));
             section.length = end.min(SHORT as u64) as usize;

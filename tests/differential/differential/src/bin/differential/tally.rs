@@ -1,15 +1,18 @@
-//! How often each answer of choosing, rewriting, relaxing and the pass was seen, and each figure of a pass's tally
-//! raised.
+//! How often each answer of choosing, rewriting, relaxing and the pass was seen, those while a skip is pending once
+//! more, and each figure of a pass's tally raised.
 
 use differential::pass::BYTES;
+use differential::pass::EMPTY_TYPE;
 use differential::pass::NONE;
 use differential::pass::SKIPPED;
 use differential::relaxation;
 use differential::relaxation::KIND_NAMES;
 use differential::relaxation::NO_OP;
 use differential::relaxation::REX_ADD_TO_LEA;
+use differential::relaxation::Record;
 use jitamoro::sys;
 use jitamoro::sys::ChoiceAnswer;
+use jitamoro::sys::Pass;
 use jitamoro::sys::StepAnswer;
 
 /// The answers of one function.
@@ -38,12 +41,38 @@ pub struct PassAnswers {
     wrapped_bytes: u64,
 }
 
+/// The answers of a pass while a skip is pending: to empty records, and to what comes after them.
+#[derive(Default)]
+pub struct PendingAnswers {
+    empty: u64,
+    /// Not the first of its run.
+    empty_again: u64,
+    /// By refusal.
+    empty_refused: [u64; 25],
+    end_after: u64,
+    skipped_after: u64,
+    /// Refused with 22, and not before the empty records.
+    order_after: u64,
+    skipped_none: u64,
+    /// Skipped, though relaxing would make it type 0: of type 20, of type 35.
+    skipped_to_0: [u64; 2],
+}
+
+/// The empty records that were accepted since a skip is pending.
+#[derive(Default)]
+pub struct Run {
+    length: u64,
+    /// The last offset before the first of them.
+    last: u64,
+}
+
 #[derive(Default)]
 pub struct Tally {
     pub choosing: Answers,
     pub rewriting: Answers,
     pub relaxing: Answers,
     pub pass: PassAnswers,
+    pub pending: PendingAnswers,
 }
 
 impl Answers {
@@ -131,6 +160,70 @@ impl PassAnswers {
     }
 }
 
+impl PendingAnswers {
+    /// A step from a pass with a skip pending; `choice` is what choosing gives for its record.
+    pub fn count_step(
+        &mut self,
+        run: &mut Run,
+        pass: &Pass,
+        record: &Record,
+        choice: &ChoiceAnswer,
+        answer: &StepAnswer,
+    ) {
+        match (record.r_type, answer.relaxed.choice.refusal) {
+            (EMPTY_TYPE, 0) => {
+                self.empty += 1;
+                self.empty_again += u64::from(run.length > 0);
+                if run.length == 0 {
+                    run.last = pass.last;
+                }
+                run.length += 1;
+            }
+            (EMPTY_TYPE, refusal) => self.empty_refused[usize::from(refusal)] += 1,
+            (r_type, 0) => {
+                self.skipped_after += u64::from(run.length > 0);
+                self.count_skipped(r_type, choice);
+                *run = Run::default();
+            }
+            (_, 22) => {
+                self.order_after += u64::from(run.length > 0 && record.offset >= run.last);
+            }
+            _ => {}
+        }
+    }
+
+    fn count_skipped(&mut self, r_type: u32, choice: &ChoiceAnswer) {
+        match (r_type, choice.chosen, choice.new_type) {
+            (_, false, _) => self.skipped_none += 1,
+            (20, true, EMPTY_TYPE) => self.skipped_to_0[0] += 1,
+            (35, true, EMPTY_TYPE) => self.skipped_to_0[1] += 1,
+            _ => {}
+        }
+    }
+
+    pub fn count_end(&mut self, run: &Run, refusal: u8) {
+        self.end_after += u64::from(run.length > 0 && refusal == 24);
+    }
+
+    /// Prints how often each answer was seen, and says how many never were.
+    fn print(&self) -> usize {
+        let named = [
+            ("empty", self.empty),
+            ("empty, after another", self.empty_again),
+            ("after empty: skipped", self.skipped_after),
+            ("after empty: refusal 22", self.order_after),
+            ("after empty: refusal 24", self.end_after),
+            ("skipped, none by choice", self.skipped_none),
+            ("skipped, 20 to be 0", self.skipped_to_0[0]),
+            ("skipped, 35 to be 0", self.skipped_to_0[1]),
+        ];
+        let named = named.map(|(name, count)| (name.to_string(), count));
+        let refused = [1, 2, 3, 4, 21, 22];
+        let refused = refused.map(|it| (format!("empty, refusal {it}"), self.empty_refused[it]));
+        print_rows("skip pending", named.into_iter().chain(refused))
+    }
+}
+
 /// Prints a column, and says how many of its rows are 0.
 fn print_rows(head: &str, rows: impl Iterator<Item = (String, u64)>) -> usize {
     println!("{:<28}{head:>12}", "");
@@ -168,7 +261,7 @@ impl Tally {
             let name = format!("refusal {refusal}");
             unseen += self.print_row(&name, |it| it.refused[refusal], given);
         }
-        unseen + self.pass.print()
+        unseen + self.pass.print() + self.pending.print()
     }
 
     /// `given` says which of the three functions give this answer.
