@@ -7,7 +7,7 @@ use mathlib.Core.List.{List, [], _∷_, _++_, map}
 use Prim.Native.Nat.{ℕ, zero, suc, _+_, _<_, _≤_}
 use native.Mathlib.Nat.{add-zero, le-trans, lt-of-lt-of-le, le-of-lt, le-of-suc-le-suc, not-suc-le-zero}
 use native.Mathlib.Omega.{arith}
-use lib.Dec.{ltb}
+use lib.Dec.{eqb, ltb}
 use lib.ListN.{length, getD}
 use borrow.Author.Tests.{ltb-true, ltb-false, eqb-true, eqb-false}
 use Rattle.rules.specs.Answer.{Answer, gives, refuses}
@@ -194,6 +194,22 @@ pairwise b (x ∷ xs) i zero h l g = absurd (not-suc-le-zero l)
 pairwise b (x ∷ xs) zero (suc j) h l g = above (x .to) xs j (h .2) (le-of-suc-le-suc g)
 pairwise b (x ∷ xs) (suc i) (suc j) h l g = pairwise (x .to) xs i j (h .2) (le-of-suc-le-suc l) (le-of-suc-le-suc g)
 
+-- ---- a record that is met while a skip is pending, and one that is none
+
+meets :
+    (w : Walk) (r : Relocation) (c : Choice)
+    → w .pass .ended ≡ false → choosing linkLimit (w .section) r ≡ gives c → ltb (r .offset) (w .pass .last) ≡ false → isPending (w .pass) ≡ true
+    → answer w r ≡ gives (cond (eqb (r .«r_type») 0) (took unrelaxed) skipped)
+unfolding stepping checked
+meets w r c e h l q = rw (e, h, l, q) (by (isType0 r)) where
+  by : (b : Bool) → cond b (gives (took unrelaxed)) (gives skipped) ≡ gives (cond b (took unrelaxed) skipped)
+  by true = refl
+  by false = refl
+
+leaves : (w : Walk) (r : Relocation) → answer w r ≡ gives (took unrelaxed) → stepped w r ≡ lastAt (r .offset) w
+unfolding passAfter bytesAfter afterRelaxing
+leaves w r e = rw e
+
 -- ---- a pending skip: an accepted record of another type than 0 is skipped, and one of type 0 moves the last offset
 
 waiting : (w : Walk) (r : Relocation) (a : Answer Accepted) → Sound (w .pass) (w .section) r a → isPending (w .pass) ≡ true → (isType0 r || isRefused a) ≡ true
@@ -249,6 +265,8 @@ walks =
       joined = joined;
       works = works;
       over = over;
+      meets = meets;
+      leaves = leaves;
       waits = waits;
       pair = pair;
       only = λ w r e. subst (Sound (w .pass) (w .section) r) e (sound w r) .2;

@@ -4,7 +4,7 @@ use mathlib.Core.Logic.{_⊎_}
 use mathlib.Core.Bool.{Bool, true, false, cond, _||_, _&&_}
 use mathlib.Core.List.{List, [], _∷_, _++_, map}
 use Prim.Native.Nat.{ℕ, _<_, _≤_}
-use lib.Dec.{ltb}
+use lib.Dec.{eqb, ltb}
 use lib.ListN.{length, getD}
 use Rattle.rules.specs.Answer.{Answer, gives, refuses}
 use Rattle.x86_64_kind.specs.declared.RelaxationKind.{RelaxationKind}
@@ -119,6 +119,13 @@ pub record Walks : Type 0 where
       → answer w r ≡ gives (took (relaxed k t m x))
   -- a pass that has ended answers 21 to every record, and nothing changes
   pub over : (w : Walk) (rs : List Relocation) → w .pass .ended ≡ true → (answers w rs ≡ map (λ _. refuses 21) rs) × (walk w rs ≡ w)
+  -- a record met while a skip is pending, unless 21, 1, 2, 3, 4 or 22 refuse it: none if its own type is 0, and skipped otherwise
+  pub meets :
+      (w : Walk) (r : Relocation) (c : Choice)
+      → w .pass .ended ≡ false → choosing linkLimit (w .section) r ≡ gives c → ltb (r .offset) (w .pass .last) ≡ false → isPending (w .pass) ≡ true
+      → answer w r ≡ gives (cond (eqb (r .«r_type») 0) (took unrelaxed) skipped)
+  -- a record that is none, whether a skip is pending or not, sets the last offset and nothing else
+  pub leaves : (w : Walk) (r : Relocation) → answer w r ≡ gives (took unrelaxed) → stepped w r ≡ lastAt (r .offset) w
   -- "a type 0 record met while a skip is pending .. leaves the skip pending": any number of them, refused records among them, move the
   -- last offset and nothing else
   pub waits : (w : Walk) (rs : List Relocation) → isPending (w .pass) ≡ true → between w rs ≡ true → walk w rs ≡ lastAt (walk w rs .pass .last) w
