@@ -137,7 +137,7 @@ pub record Walks : Type 0 where
       → let here = walk (stepped w s) rs in
       (ending (here .pass) ≡ refuses 24)
       × ((r : Relocation) (a : Accepted) → isType0 r ≡ false → answer here r ≡ gives a → (a ≡ skipped) × (isPending (stepped here r .pass) ≡ false))
-  -- no other record is ever skipped
+  -- none is skipped but while a skip is pending, and none of type 0
   pub only : (w : Walk) (r : Relocation) → answer w r ≡ gives skipped → (isPending (w .pass) ≡ true) × (isType0 r ≡ false)
   -- offsets never fall
   pub rising : (w : Walk) (rs : List Relocation) → Rising (w .pass .last) (offsets w rs)
