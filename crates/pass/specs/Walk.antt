@@ -93,6 +93,13 @@ abbrev pub isRefused : Answer Accepted → Bool
 isRefused (refuses n) = true
 isRefused (gives a) = false
 
+-- a record that set a skip: it was relaxed by a kind that says so
+abbrev pub setsSkip : Answer Accepted → Bool
+setsSkip (gives (took (relaxed k t m x))) = skips k
+setsSkip (gives (took unrelaxed)) = false
+setsSkip (gives skipped) = false
+setsSkip (refuses n) = false
+
 -- each is "a type 0 record", or is refused where it stands
 abbrev pub between : Walk → List Relocation → Bool
 between w [] = true
@@ -132,13 +139,13 @@ pub record Walks : Type 0 where
   -- whatever such records stand behind one that set a skip: "Ending then still gives 24", and the next record of another type that is
   -- accepted is the one that is skipped, with no skip pending then
   pub pair :
-      (w : Walk) (s : Relocation) (k : RelaxationKind) (t : ℕ) (m : Bool) (x : Rewritten) (rs : List Relocation)
-      → answer w s ≡ gives (took (relaxed k t m x)) → skips k ≡ true → between (stepped w s) rs ≡ true
+      (w : Walk) (s : Relocation) (rs : List Relocation) → setsSkip (answer w s) ≡ true → between (stepped w s) rs ≡ true
       → let here = walk (stepped w s) rs in
       (ending (here .pass) ≡ refuses 24)
       × ((r : Relocation) (a : Accepted) → isType0 r ≡ false → answer here r ≡ gives a → (a ≡ skipped) × (isPending (stepped here r .pass) ≡ false))
-  -- none is skipped but while a skip is pending, and none of type 0
+  -- no other record is ever skipped: only while a skip is pending, which no other record sets
   pub only : (w : Walk) (r : Relocation) → answer w r ≡ gives skipped → (isPending (w .pass) ≡ true) × (isType0 r ≡ false)
+  pub sets : (w : Walk) (r : Relocation) → isPending (w .pass) ≡ false → isPending (stepped w r .pass) ≡ setsSkip (answer w r)
   -- offsets never fall
   pub rising : (w : Walk) (rs : List Relocation) → Rising (w .pass .last) (offsets w rs)
   -- windows never overlap: none begins before the end of the last one, and so none before the end of any
