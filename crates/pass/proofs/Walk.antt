@@ -7,13 +7,13 @@ use mathlib.Core.List.{List, [], _∷_, _++_, map}
 use Prim.Native.Nat.{ℕ, zero, suc, _+_, _<_, _≤_}
 use native.Mathlib.Nat.{add-zero, le-trans, lt-of-lt-of-le, le-of-lt, le-of-suc-le-suc, not-suc-le-zero}
 use native.Mathlib.Omega.{arith}
-use lib.Dec.{ltb}
+use lib.Dec.{eqb, ltb}
 use lib.ListN.{length, getD}
 use borrow.Author.Tests.{ltb-true, ltb-false, eqb-true, eqb-false}
 use Rattle.rules.specs.Answer.{Answer, gives, refuses}
 use Rattle.x86_64_kind.specs.declared.RelaxationKind.{RelaxationKind}
 use Rattle.x86_64_kind.specs.declared.Window.{Window}
-use Rattle.x86_64_kind.specs.Kinds.{isEmpty, begin, end, inside, skips}
+use Rattle.x86_64_kind.specs.Kinds.{isEmpty, begin, end, inside}
 use Rattle.rules.specs.declared.Relocation.{Relocation}
 use Rattle.rules.specs.Record.{linkLimit}
 use Rattle.rules.specs.Choose.{Choice, choosing}
@@ -23,7 +23,7 @@ use Rattle.rules.proofs.Kept.{Kept, kept}
 use Rattle.laws.proofs.Bools.{both}
 use Rattle.pass.specs.declared.Pass.{Pass}
 use Rattle.pass.specs.Pass.{isPending, isType0, passing, Accepted, took, skipped, overlaps, checked, clearing, stepping, passAfter, bytesAfter, ending}
-use Rattle.pass.specs.Walk.{Walk, answer, stepped, walk, answers, offsetOf, offsets, Part, partFrom, partOf, parts, Rising, Apart, Inside, Outside, isRefused, between, lastAt, Walks}
+use Rattle.pass.specs.Walk.{Walk, answer, stepped, walk, answers, offsetOf, offsets, Part, partFrom, partOf, parts, Rising, Apart, Inside, Outside, isRefused, setsSkip, between, lastAt, Walks}
 use Rattle.pass.proofs.Stepping.{Sound, step-sound, relaxing-rewrites}
 
 -- ---- order
@@ -194,6 +194,22 @@ pairwise b (x ∷ xs) i zero h l g = absurd (not-suc-le-zero l)
 pairwise b (x ∷ xs) zero (suc j) h l g = above (x .to) xs j (h .2) (le-of-suc-le-suc g)
 pairwise b (x ∷ xs) (suc i) (suc j) h l g = pairwise (x .to) xs i j (h .2) (le-of-suc-le-suc l) (le-of-suc-le-suc g)
 
+-- ---- a record that is met while a skip is pending, and one that is none
+
+meets :
+    (w : Walk) (r : Relocation) (c : Choice)
+    → w .pass .ended ≡ false → choosing linkLimit (w .section) r ≡ gives c → ltb (r .offset) (w .pass .last) ≡ false → isPending (w .pass) ≡ true
+    → answer w r ≡ gives (cond (eqb (r .«r_type») 0) (took unrelaxed) skipped)
+unfolding stepping checked
+meets w r c e h l q = rw (e, h, l, q) (by (isType0 r)) where
+  by : (b : Bool) → cond b (gives (took unrelaxed)) (gives skipped) ≡ gives (cond b (took unrelaxed) skipped)
+  by true = refl
+  by false = refl
+
+leaves : (w : Walk) (r : Relocation) → answer w r ≡ gives (took unrelaxed) → stepped w r ≡ lastAt (r .offset) w
+unfolding passAfter bytesAfter afterRelaxing
+leaves w r e = rw e
+
 -- ---- a pending skip: an accepted record of another type than 0 is skipped, and one of type 0 moves the last offset
 
 waiting : (w : Walk) (r : Relocation) (a : Answer Accepted) → Sound (w .pass) (w .section) r a → isPending (w .pass) ≡ true → (isType0 r || isRefused a) ≡ true
@@ -216,30 +232,43 @@ next w r skipped s q z = refl
 next w r (took unrelaxed) s q z = absurd (false≢true (sym z ∙ s .2 q))
 next w r (took (relaxed k t m x)) s q z = absurd (false≢true (sym (s .2 .0) ∙ q))
 
-module _ (w : Walk) (s : Relocation) (k : RelaxationKind) (t : ℕ) (m : Bool) (x : Rewritten) (rs : List Relocation) (e : answer w s ≡ gives (took (relaxed k t m x))) (q : skips k ≡ true) (b : between (stepped w s) rs ≡ true) where
+sets : (w : Walk) (r : Relocation) (a : Answer Accepted) → isPending (w .pass) ≡ false → isPending (passAfter (w .pass) r a) ≡ setsSkip a
+unfolding passAfter
+sets w r (refuses n) q = q
+sets w r (gives skipped) q = refl
+sets w r (gives (took unrelaxed)) q = q
+sets w r (gives (took (relaxed k t m x))) q = refl
+
+set : (w : Walk) (r : Relocation) (a : Answer Accepted) → Sound (w .pass) (w .section) r a → setsSkip a ≡ true → (passAfter (w .pass) r a .ended ≡ false) × (isPending (passAfter (w .pass) r a) ≡ true)
+unfolding passAfter
+set w r (gives (took (relaxed k t m x))) s q = (s .0, q)
+set w r (gives (took unrelaxed)) s q = absurd (false≢true q)
+set w r (gives skipped) s q = absurd (false≢true q)
+set w r (refuses n) s q = absurd (false≢true q)
+
+module _ (w : Walk) (s : Relocation) (rs : List Relocation) (q : setsSkip (answer w s) ≡ true) (b : between (stepped w s) rs ≡ true) where
   here : Walk
   here = walk (stepped w s) rs
 
-  set : (stepped w s .pass .ended ≡ false) × (isPending (stepped w s .pass) ≡ true)
-  unfolding passAfter
-  set = (rw e (subst (Sound (w .pass) (w .section) s) e (sound w s) .0), rw e q)
+  begun : (stepped w s .pass .ended ≡ false) × (isPending (stepped w s .pass) ≡ true)
+  begun = set w s (answer w s) (sound w s) q
 
   stays : here ≡ lastAt (here .pass .last) (stepped w s)
   unfolding here
-  stays = waits (stepped w s) rs (set .1) b
+  stays = waits (stepped w s) rs (begun .1) b
 
   pending : isPending (here .pass) ≡ true
-  pending = ap (λ (v : Walk). isPending (v .pass)) stays ∙ set .1
-
-  skips-next : (r : Relocation) (a : Accepted) → isType0 r ≡ false → answer here r ≡ gives a → (a ≡ skipped) × (isPending (stepped here r .pass) ≡ false)
-  unfolding passAfter
-  skips-next r a z g =
-      let n = next here r a (subst (Sound (here .pass) (here .section) r) g (sound here r)) pending z in
-      (n, rw (g ∙ ap (λ (y : Accepted). gives y) n))
+  pending = ap (λ (v : Walk). isPending (v .pass)) stays ∙ begun .1
 
   pair : (ending (here .pass) ≡ refuses 24)
       × ((r : Relocation) (a : Accepted) → isType0 r ≡ false → answer here r ≡ gives a → (a ≡ skipped) × (isPending (stepped here r .pass) ≡ false))
-  pair = (rw (ap (λ (v : Walk). v .pass .ended) stays ∙ set .0, pending), skips-next)
+  unfolding passAfter
+  pair = (
+    rw (ap (λ (v : Walk). v .pass .ended) stays ∙ begun .0, pending),
+    λ r a z g.
+        let n = next here r a (subst (Sound (here .pass) (here .section) r) g (sound here r)) pending z in
+        (n, rw (g ∙ ap (λ (y : Accepted). gives y) n)),
+  )
 
 pub walks : Walks
 unfolding low here
@@ -249,9 +278,12 @@ walks =
       joined = joined;
       works = works;
       over = over;
+      meets = meets;
+      leaves = leaves;
       waits = waits;
       pair = pair;
       only = λ w r e. subst (Sound (w .pass) (w .section) r) e (sound w r) .2;
+      sets = λ w r. sets w r (answer w r);
       rising = rising;
       apart = apart;
       no-overlap = λ w rs i j l g. pairwise (w .pass .window) (parts w rs) i j (apart w rs) l g;

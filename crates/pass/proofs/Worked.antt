@@ -17,6 +17,7 @@ worked =
       ends-at = refl;
       holds = refl;
       outside = (inr (omega arith), (inl (omega arith), (inl (omega arith), (inl (omega arith), tt))));
+      alone = refl;
       begun = refl;
       stands-between = refl;
       waiting = refl;

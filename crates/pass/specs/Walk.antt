@@ -4,7 +4,7 @@ use mathlib.Core.Logic.{_⊎_}
 use mathlib.Core.Bool.{Bool, true, false, cond, _||_, _&&_}
 use mathlib.Core.List.{List, [], _∷_, _++_, map}
 use Prim.Native.Nat.{ℕ, _<_, _≤_}
-use lib.Dec.{ltb}
+use lib.Dec.{eqb, ltb}
 use lib.ListN.{length, getD}
 use Rattle.rules.specs.Answer.{Answer, gives, refuses}
 use Rattle.x86_64_kind.specs.declared.RelaxationKind.{RelaxationKind}
@@ -93,6 +93,13 @@ abbrev pub isRefused : Answer Accepted → Bool
 isRefused (refuses n) = true
 isRefused (gives a) = false
 
+-- a record that set a skip: it was relaxed by a kind that says so
+abbrev pub setsSkip : Answer Accepted → Bool
+setsSkip (gives (took (relaxed k t m x))) = skips k
+setsSkip (gives (took unrelaxed)) = false
+setsSkip (gives skipped) = false
+setsSkip (refuses n) = false
+
 -- each is "a type 0 record", or is refused where it stands
 abbrev pub between : Walk → List Relocation → Bool
 between w [] = true
@@ -119,19 +126,26 @@ pub record Walks : Type 0 where
       → answer w r ≡ gives (took (relaxed k t m x))
   -- a pass that has ended answers 21 to every record, and nothing changes
   pub over : (w : Walk) (rs : List Relocation) → w .pass .ended ≡ true → (answers w rs ≡ map (λ _. refuses 21) rs) × (walk w rs ≡ w)
+  -- a record met while a skip is pending, unless 21, 1, 2, 3, 4 or 22 refuse it: none if its own type is 0, and skipped otherwise
+  pub meets :
+      (w : Walk) (r : Relocation) (c : Choice)
+      → w .pass .ended ≡ false → choosing linkLimit (w .section) r ≡ gives c → ltb (r .offset) (w .pass .last) ≡ false → isPending (w .pass) ≡ true
+      → answer w r ≡ gives (cond (eqb (r .«r_type») 0) (took unrelaxed) skipped)
+  -- a record that is none, whether a skip is pending or not, sets the last offset and nothing else
+  pub leaves : (w : Walk) (r : Relocation) → answer w r ≡ gives (took unrelaxed) → stepped w r ≡ lastAt (r .offset) w
   -- "a type 0 record met while a skip is pending .. leaves the skip pending": any number of them, refused records among them, move the
   -- last offset and nothing else
   pub waits : (w : Walk) (rs : List Relocation) → isPending (w .pass) ≡ true → between w rs ≡ true → walk w rs ≡ lastAt (walk w rs .pass .last) w
   -- whatever such records stand behind one that set a skip: "Ending then still gives 24", and the next record of another type that is
   -- accepted is the one that is skipped, with no skip pending then
   pub pair :
-      (w : Walk) (s : Relocation) (k : RelaxationKind) (t : ℕ) (m : Bool) (x : Rewritten) (rs : List Relocation)
-      → answer w s ≡ gives (took (relaxed k t m x)) → skips k ≡ true → between (stepped w s) rs ≡ true
+      (w : Walk) (s : Relocation) (rs : List Relocation) → setsSkip (answer w s) ≡ true → between (stepped w s) rs ≡ true
       → let here = walk (stepped w s) rs in
       (ending (here .pass) ≡ refuses 24)
       × ((r : Relocation) (a : Accepted) → isType0 r ≡ false → answer here r ≡ gives a → (a ≡ skipped) × (isPending (stepped here r .pass) ≡ false))
-  -- no other record is ever skipped
+  -- no other record is ever skipped: only while a skip is pending, which no other record sets
   pub only : (w : Walk) (r : Relocation) → answer w r ≡ gives skipped → (isPending (w .pass) ≡ true) × (isType0 r ≡ false)
+  pub sets : (w : Walk) (r : Relocation) → isPending (w .pass) ≡ false → isPending (stepped w r .pass) ≡ setsSkip (answer w r)
   -- offsets never fall
   pub rising : (w : Walk) (rs : List Relocation) → Rising (w .pass .last) (offsets w rs)
   -- windows never overlap: none begins before the end of the last one, and so none before the end of any

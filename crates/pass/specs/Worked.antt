@@ -42,9 +42,9 @@ at = for 1 0
 abbrev pub inner : List Relocation
 inner = at 0 8 ∷ at 42 3 ∷ at 0 12 ∷ []
 
--- a sequence; what stands before its call; the call, which is skipped; a load; a descriptor's call past the load's window, and one that begins inside that call's own; an
--- empty window inside it; a type with no rule; a descriptor's call past the last window, and one that begins inside it but is cut off; and
--- an offset past the end
+-- a sequence; what stands before its call; the call, which is skipped; a load; a descriptor's call past the load's window, and one that
+-- begins inside that call's own; an empty window inside it; a type with no rule; a descriptor's call past the last window, and one that
+-- begins inside it but is cut off; and an offset past the end
 abbrev pub records : List Relocation
 records =
     at 19 4
@@ -77,6 +77,8 @@ pub record WalkWorked : Type 0 where
       ≡ 0x64 ∷ 0x48 ∷ 0x8B ∷ 0x04 ∷ 0x25 ∷ 0 ∷ 0 ∷ 0 ∷ 0 ∷ 0x48 ∷ 0x8D ∷ 0x80 ∷ 0 ∷ 0 ∷ 0 ∷ 0 ∷ 0x49 ∷ 0xC7 ∷ 0xC5 ∷ 0x66 ∷ 0x90 ∷ 0x66 ∷ 0x90 ∷ []
   -- byte 15 lies in no window, as the law of bytes asks
   pub outside : Outside 15 (parts start records)
+  -- with no skip pending, a type 0 record
+  pub alone : walk start (at 0 8 ∷ []) ≡ record { pass = passOf 8 0 false false; section = section }
   -- after the first record a skip is pending, and up to the call; then one record: of type 0; the call; the call of a symbol that can be
   -- interposed, which is none by choice; one that would become type 0; and of type 0, refused with 22, 2, 3 and 4
   pub begun : walk start (at 19 4 ∷ []) .pass ≡ passOf 4 12 true false
