@@ -60,7 +60,7 @@ impl Pass {
     }
 
     /// Takes one record. While a skip is pending, an empty one, of type [`elf::R_X86_64_NONE`](crate::elf::R_X86_64_NONE),
-    /// is [`Step::Nothing`], and the skip waits for the next record.
+    /// is [`Step::Nothing`], and the skip waits for the next of another type.
     ///
     /// # Errors
     /// [`Refusal::PassEnded`], those of [`relax`](crate::relax()), [`Refusal::OffsetBelowLast`],

@@ -199,12 +199,9 @@ pairwise b (x ∷ xs) (suc i) (suc j) h l g = pairwise (x .to) xs i j (h .2) (le
 meets :
     (w : Walk) (r : Relocation) (c : Choice)
     → w .pass .ended ≡ false → choosing linkLimit (w .section) r ≡ gives c → ltb (r .offset) (w .pass .last) ≡ false → isPending (w .pass) ≡ true
-    → answer w r ≡ gives (cond (eqb (r .«r_type») 0) (took unrelaxed) skipped)
+    → answer w r ≡ cond (eqb (r .«r_type») 0) (gives (took unrelaxed)) (gives skipped)
 unfolding stepping checked
-meets w r c e h l q = rw (e, h, l, q) (by (isType0 r)) where
-  by : (b : Bool) → cond b (gives (took unrelaxed)) (gives skipped) ≡ gives (cond b (took unrelaxed) skipped)
-  by true = refl
-  by false = refl
+meets w r c e h l q = rw (e, h, l, q)
 
 leaves : (w : Walk) (r : Relocation) → answer w r ≡ gives (took unrelaxed) → stepped w r ≡ lastAt (r .offset) w
 unfolding passAfter bytesAfter afterRelaxing

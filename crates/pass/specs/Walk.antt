@@ -130,7 +130,7 @@ pub record Walks : Type 0 where
   pub meets :
       (w : Walk) (r : Relocation) (c : Choice)
       → w .pass .ended ≡ false → choosing linkLimit (w .section) r ≡ gives c → ltb (r .offset) (w .pass .last) ≡ false → isPending (w .pass) ≡ true
-      → answer w r ≡ gives (cond (eqb (r .«r_type») 0) (took unrelaxed) skipped)
+      → answer w r ≡ cond (eqb (r .«r_type») 0) (gives (took unrelaxed)) (gives skipped)
   -- a record that is none, whether a skip is pending or not, sets the last offset and nothing else
   pub leaves : (w : Walk) (r : Relocation) → answer w r ≡ gives (took unrelaxed) → stepped w r ≡ lastAt (r .offset) w
   -- "a type 0 record met while a skip is pending .. leaves the skip pending": any number of them, refused records among them, move the
