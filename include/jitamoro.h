@@ -409,8 +409,8 @@ struct jitamoro_pass jitamoro_pass_fresh(void);
 /* Takes one record: skips it if that is pending, with no byte touched, or relaxes it as jitamoro_relax does. An empty
    record, which comes with type 0 (JITAMORO_R_X86_64_NONE), is never skipped: it is none, and a pending skip waits for
    the next one of another type. It sets `last` as any accepted record does, so that a call that lies before it is
-   refused with 22. Refusals 21, 1, 2, 3, 4, 22, then the skip, then 6 and 23 where a kind was chosen; an empty window is never
-   refused with 23. */
+   refused with 22. Refusals 21, 1, 2, 3, 4, 22, then the skip, then 6 and 23 where a kind was chosen; an empty window
+   is never refused with 23. */
 struct jitamoro_step jitamoro_pass_step(struct jitamoro_pass *pass, uint32_t r_type, uint8_t *section,
                                         size_t len, uint64_t offset, uint8_t flags, uint8_t output_kind,
                                         bool executable, uint64_t address, int64_t addend);
