@@ -38,7 +38,7 @@ pub enum Step {
     Nothing,
     /// The record was relaxed.
     Relaxed(Relaxed),
-    /// The record was skipped, as the last one before it that isn't empty asked.
+    /// The record was skipped, as one that was relaxed before it asked.
     Skipped,
 }
 

@@ -1,13 +1,12 @@
 //! Pairs with empty records between their halves (data/empty.o): the port's walk and the reference's, and what both
 //! must come to.
 
-use differential::ask_port;
 use differential::pass;
 use differential::pass::BYTES;
 use differential::pass::EMPTY_TYPE;
 use differential::pass::NONE;
 use differential::pass::SKIPPED;
-use differential::relaxation::Record;
+use differential::pass::Step;
 use jitamoro::sys::Pass;
 use jitamoro::sys::StepAnswer;
 use jitamoro::sys::Tally;
@@ -19,18 +18,6 @@ const OUTPUT_KIND: u8 = 0;
 const TLSGD: u32 = 19;
 const TLSLD: u32 = 20;
 const PLT32: u32 = 4;
-
-/// A step, of the port or of the reference.
-type Step = fn(&mut Pass, &mut Tally, &Record, &mut [u8]) -> StepAnswer;
-
-fn port_step(
-    pass: &mut Pass,
-    tally: &mut Tally,
-    record: &Record,
-    section: &mut [u8],
-) -> StepAnswer {
-    ask_port!(tally_step, record, section, pass, tally)
-}
 
 /// What a walk comes to: what its steps and its end answer, with the pass then, the figures that aren't 0, and the bytes.
 #[derive(Debug, PartialEq)]
@@ -64,7 +51,7 @@ fn check(name: &str, records: &[(u32, u64)], figures: &[(usize, u64)], bytes: &[
     let linked = linked.iter().find(|it| it.section.name == name).unwrap();
     let found = linked.records.iter().map(|it| (it.r_type, it.offset));
     assert_eq!(found.collect::<Vec<_>>(), records);
-    let port = walk(linked, port_step, |pass| {
+    let port = walk(linked, pass::port_tally_step, |pass| {
         jitamoro::sys::jitamoro_pass_end(pass)
     });
     assert_eq!(port, walk(linked, pass::tally_step, pass::end));

@@ -1,6 +1,7 @@
 //! The pass of documents 01 and 02 over wild's choosing, rewriting and modifier, answering as the port does, and its
-//! tally.
+//! tally; and the port's steps.
 
+use crate::ask_port;
 use crate::relaxation;
 use crate::relaxation::REX_ADD;
 use crate::relaxation::Record;
@@ -41,6 +42,28 @@ pub const EMPTY_TYPE: u32 = 0;
 pub const NONE: usize = 19;
 pub const SKIPPED: usize = 20;
 pub const BYTES: usize = 21;
+
+/// A step with a tally, of either side.
+pub type Step = fn(&mut Pass, &mut Tally, &Record, &mut [u8]) -> StepAnswer;
+
+/// The port's step; the tally is left alone.
+pub fn port_step(
+    pass: &mut Pass,
+    _: &mut Tally,
+    record: &Record,
+    section: &mut [u8],
+) -> StepAnswer {
+    ask_port!(pass_step, record, section, pass)
+}
+
+pub fn port_tally_step(
+    pass: &mut Pass,
+    tally: &mut Tally,
+    record: &Record,
+    section: &mut [u8],
+) -> StepAnswer {
+    ask_port!(tally_step, record, section, pass, tally)
+}
 
 /// One record, and what it adds to the tally.
 pub fn tally_step(

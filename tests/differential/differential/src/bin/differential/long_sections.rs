@@ -5,13 +5,13 @@
 use crate::Comparison;
 use crate::GUARD;
 use crate::pass::EMPTY;
-use crate::pass::Step;
-use crate::pass::port_step;
-use crate::pass::port_tally_step;
 use crate::relaxing;
 use crate::tally::Run;
 use differential::around;
 use differential::pass;
+use differential::pass::Step;
+use differential::pass::port_step;
+use differential::pass::port_tally_step;
 use differential::relaxation;
 use differential::relaxation::Record;
 use differential::relaxation::SECTION_LIMIT;

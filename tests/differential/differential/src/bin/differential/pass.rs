@@ -9,11 +9,13 @@ use crate::relaxing::SHORT;
 use crate::relaxing::Section;
 use crate::relaxing::WHOLE;
 use crate::tally::Run;
-use differential::ask_port;
 use differential::at_random;
 use differential::at_random::Dice;
 use differential::pass;
 use differential::pass::EMPTY_TYPE;
+use differential::pass::Step;
+use differential::pass::port_step;
+use differential::pass::port_tally_step;
 use differential::relaxation;
 use differential::relaxation::Record;
 use differential::sequences::SEQUENCES;
@@ -34,27 +36,6 @@ pub const EMPTY: Sequence = Sequence {
     before: &[0x48, 0x8b, 0x2d],
     after: &[0; 4],
 };
-
-/// The port's step; the tally is left alone.
-pub fn port_step(
-    pass: &mut Pass,
-    _: &mut Tally,
-    record: &Record,
-    section: &mut [u8],
-) -> StepAnswer {
-    ask_port!(pass_step, record, section, pass)
-}
-
-pub fn port_tally_step(
-    pass: &mut Pass,
-    tally: &mut Tally,
-    record: &Record,
-    section: &mut [u8],
-) -> StepAnswer {
-    ask_port!(tally_step, record, section, pass, tally)
-}
-
-pub type Step = fn(&mut Pass, &mut Tally, &Record, &mut [u8]) -> StepAnswer;
 
 /// A walk over a list: its state, its tally, and the section between guard bytes.
 #[derive(Clone)]
