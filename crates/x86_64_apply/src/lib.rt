@@ -2,7 +2,7 @@
 ghost use mathlib.Core.Path.{_≡_};
 ghost use mathlib.Core.Bool.{cond};
 ghost use mathlib.Core.List.{[], _∷_};
-ghost use Prim.Native.Nat.{_+_, _-_, _≤_, _<_};
+ghost use Prim.Native.Nat.{_+_, _-_, _/_, _%_, _≤_, _<_};
 ghost use lib.IntN.{pos};
 ghost use lib.ListN.{length, getD};
 ghost use lib.Seq.{sets};
@@ -116,7 +116,7 @@ fn rewrite(kind: RelaxationKind, section_bytes: &mut [u8], offset: u64, addend: 
             addend,
             n,
             0x81,
-            5,
+            0x28,
         ),
         RelaxationKind::RexCmpIndirectToAbsolute(n) => to_absolute(
             RelaxationKind::RexCmpIndirectToAbsolute(3).shape(),
@@ -125,7 +125,7 @@ fn rewrite(kind: RelaxationKind, section_bytes: &mut [u8], offset: u64, addend: 
             addend,
             n,
             0x81,
-            7,
+            0x38,
         ),
         RelaxationKind::CallIndirectToRelative => replace(
             RelaxationKind::CallIndirectToRelative.shape(),
@@ -270,16 +270,16 @@ fn to_absolute(
     addend: i64,
     inst_offset: u8,
     opcode: u8,
-    digit: u8,
+    own: u8,
 ) -> Applied
-    requires { ⌜ Ready shape (now «section_bytes») offset × (3 ≤ shape .window .back) × (shape .window .back ≤ shape .window .size) × (digit < 8) ⌝ }
-    ensures { λ r. ⌜ r ≡ appliedOf (attempted shape (toAbsolute «inst_offset» opcode digit (now («section_bytes» .entry)) offset) (now («section_bytes» .entry)) offset addend) ⌝ }
-    ensures { λ _. ⌜ now («section_bytes» .exit) ≡ afterRewriting (now («section_bytes» .entry)) (attempted shape (toAbsolute «inst_offset» opcode digit (now («section_bytes» .entry)) offset) (now («section_bytes» .entry)) offset addend) ⌝ }
+    requires { ⌜ Ready shape (now «section_bytes») offset × (3 ≤ shape .window .back) × (shape .window .back ≤ shape .window .size) × (own % 8 ≡ 0) × (own < 64) ⌝ }
+    ensures { λ r. ⌜ r ≡ appliedOf (attempted shape (toAbsolute «inst_offset» opcode (own / 8) (now («section_bytes» .entry)) offset) (now («section_bytes» .entry)) offset addend) ⌝ }
+    ensures { λ _. ⌜ now («section_bytes» .exit) ≡ afterRewriting (now («section_bytes» .entry)) (attempted shape (toAbsolute «inst_offset» opcode (own / 8) (now («section_bytes» .entry)) offset) (now («section_bytes» .entry)) offset addend) ⌝ }
 {
     let window = shape.window;
     let inside = window.is_inside(section_bytes.len() as u64, offset);
     if inside {
-        set_prefixed(section_bytes, offset as usize, inst_offset, opcode, digit);
+        set_prefixed(section_bytes, offset as usize, inst_offset, opcode, own);
         return place(shape, offset, addend);
     }
     Applied::Refused(6)
@@ -336,23 +336,23 @@ fn place(shape: Shape, offset: u64, addend: i64) -> Applied
 
 // ---- An operand
 
-// An opcode, and its ModRM byte in register form, with the opcode's digit.
-fn set_register_form(section_bytes: &mut [u8], offset: usize, opcode: u8, digit: u8)
-    requires { ⌜ (2 ≤ offset) × (offset ≤ length (now «section_bytes»)) × (digit < 8) ⌝ }
-    ensures { λ _. ⌜ now («section_bytes» .exit) ≡ sets (now («section_bytes» .entry)) (offset - 2) (opcode ∷ direct digit (getD (now («section_bytes» .entry)) (offset - 1) 0) ∷ []) ⌝ }
+// An opcode, and its ModRM byte in register form: the table's entry, and the opcode's own constant, 28 for sub and 38 for cmp.
+fn set_register_form(section_bytes: &mut [u8], offset: usize, opcode: u8, own: u8)
+    requires { ⌜ (2 ≤ offset) × (offset ≤ length (now «section_bytes»)) × (own % 8 ≡ 0) × (own < 64) ⌝ }
+    ensures { λ _. ⌜ now («section_bytes» .exit) ≡ sets (now («section_bytes» .entry)) (offset - 2) (opcode ∷ direct (own / 8) (getD (now («section_bytes» .entry)) (offset - 1) 0) ∷ []) ⌝ }
 {
     let mod_rm = section_bytes[offset - 1];
     section_bytes[offset - 2] = opcode;
-    section_bytes[offset - 1] = register_form(digit, mod_rm);
+    section_bytes[offset - 1] = x86_64_mod_rm::register_form(mod_rm) + own;
 }
 
 // The same after a REX or REX2 prefix, whose register bits move.
-fn set_prefixed(section_bytes: &mut [u8], offset: usize, inst_offset: u8, opcode: u8, digit: u8)
-    requires { ⌜ (3 ≤ offset) × (offset ≤ length (now «section_bytes»)) × (digit < 8) ⌝ }
-    ensures { λ _. ⌜ now («section_bytes» .exit) ≡ toAbsolute «inst_offset» opcode digit (now («section_bytes» .entry)) offset ⌝ }
+fn set_prefixed(section_bytes: &mut [u8], offset: usize, inst_offset: u8, opcode: u8, own: u8)
+    requires { ⌜ (3 ≤ offset) × (offset ≤ length (now «section_bytes»)) × (own % 8 ≡ 0) × (own < 64) ⌝ }
+    ensures { λ _. ⌜ now («section_bytes» .exit) ≡ toAbsolute «inst_offset» opcode (own / 8) (now («section_bytes» .entry)) offset ⌝ }
 {
     section_bytes[offset - 3] = prefix_moved(inst_offset, section_bytes[offset - 3]);
-    set_register_form(section_bytes, offset, opcode, digit);
+    set_register_form(section_bytes, offset, opcode, own);
 }
 
 // The same after an EVEX prefix: add.
@@ -412,15 +412,7 @@ fn evex_moved(l5: u8) -> u8
     ((l5 | 0x80) & !((!l5 & 0x80) >> 2)) | 0x10 | ((!l5 & 0x10) >> 1)
 }
 
-// ModRM: the register in the low field, over mod 3 and an opcode's digit.
-fn register_form(digit: u8, mod_rm: u8) -> u8
-    requires { ⌜ digit < 8 ⌝ }
-    ensures { λ r. ⌜ r ≡ direct digit «mod_rm» ⌝ }
-{
-    (mod_rm >> 3) & 7 | (0xc0 + digit * 8)
-}
-
-// ModRM: the register in both fields, with a 32-bit displacement.
+// ModRM: the register in both fields, with a 32-bit displacement. This is no register form, so it keeps its formula.
 fn base_form(mod_rm: u8) -> u8
     ensures { λ r. ⌜ r ≡ based «mod_rm» ⌝ }
 {
