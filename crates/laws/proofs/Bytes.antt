@@ -1,13 +1,12 @@
--- Rules of bytes: one that holds at all 256, by a test that is computed; and the low three bits over a base that has none.
+-- Rules of bytes: one that holds at all 256, by a test that is computed.
 -- Assumes nothing.
-use mathlib.Core.Path.{_≡_, refl, subst, sym, ap, _∙_}
+use mathlib.Core.Path.{_≡_, refl, subst, sym}
 use mathlib.Core.Bool.{Bool, true, false, _&&_}
-use Prim.Native.Nat.{ℕ, zero, suc, _+_, _*_, _/_, _%_, _<_}
+use Prim.Native.Nat.{ℕ, zero, suc, _<_}
 use native.Mathlib.Nat.{not-suc-le-zero}
 use native.Mathlib.Omega.{arith}
 use borrow.Author.Tests.{eqb-true, eqb-false}
 use lib.Dec.{T, eqb, eqb→eq}
-use lib.Bits.{bitAnd, bitOr, and-mask, or-shifted-r}
 use Rattle.laws.proofs.Bools.{and-left, and-right}
 
 abbrev pub every : (ℕ → Bool) → ℕ → Bool
@@ -27,10 +26,3 @@ at f (suc n) t b h =
 -- two functions that a test of all bytes finds equal are equal at each byte
 pub same : (f g : ℕ → ℕ) → T (every (λ b. eqb (f b) (g b)) 256) → (b : ℕ) → b < 256 → f b ≡ g b
 same f g t b h = eqb→eq (f b) (g b) (at (λ k. eqb (f k) (g k)) 256 t b h)
-
--- the low three bits over a base that has none
-pub over : (base m : ℕ) → base % 8 ≡ 0 → bitOr (bitAnd m 7) base ≡ base + m % 8
-over base m h =
-    let e : base ≡ base / 8 * 8 = omega arith in
-    ap (λ (x : ℕ). bitOr x base) (and-mask m 3)
-    ∙ (ap (λ (x : ℕ). bitOr (m % 8) x) e ∙ (or-shifted-r (base / 8) 3 (m % 8) (omega arith) ∙ ap (λ (x : ℕ). x + m % 8) (sym e)))
