@@ -2,7 +2,13 @@
 
 use std::cell::Cell;
 use std::env;
+use std::ffi::CStr;
+use std::ffi::CString;
+use std::ffi::c_char;
+use std::ffi::c_int;
+use std::ffi::c_void;
 use std::fmt::Write;
+use std::mem::transmute_copy;
 use std::process;
 use std::process::Command;
 use std::time::Duration;
@@ -220,6 +226,27 @@ fn middle(figures: impl Iterator<Item = f64>) -> String {
 unsafe extern "C" {
     /// The C library's; a `timespec` is two words.
     fn clock_gettime(clock: i32, time: *mut [i64; 2]) -> i32;
+    fn dlopen(path: *const c_char, mode: c_int) -> *mut c_void;
+    fn dlsym(library: *mut c_void, name: *const c_char) -> *mut c_void;
+}
+
+const RTLD_NOW: c_int = 2;
+
+/// A function of another version, from the shared object that `JITAMORO_BEFORE` names, if it does.
+///
+/// # Safety
+///
+/// `F` is the function's type, a pointer.
+pub unsafe fn before<F: Copy>(name: &CStr) -> Option<F> {
+    let path = CString::new(env::var("JITAMORO_BEFORE").ok()?).unwrap();
+    // SAFETY: both are strings of C; the library has no code that runs as it is loaded.
+    let function = unsafe { dlsym(dlopen(path.as_ptr(), RTLD_NOW), name.as_ptr()) };
+    if function.is_null() {
+        fail(&format!("{path:?} has no function {name:?}"));
+    }
+    assert_eq!(size_of::<F>(), size_of_val(&function));
+    // SAFETY: a pointer of this type, as the caller says.
+    Some(unsafe { transmute_copy(&function) })
 }
 
 const CLOCK_THREAD_CPUTIME_ID: i32 = 3;

@@ -5,6 +5,8 @@
 use crate::SEED;
 use crate::driver::Driver;
 use crate::driver::Inputs;
+use crate::driver::Side;
+use crate::driver::before;
 use crate::driver::elapsed;
 use differential::Random;
 use differential::relaxation;
@@ -22,6 +24,7 @@ use libwild::oracle::RelaxationKind;
 use libwild::oracle::RelocationKind;
 use libwild::oracle::RelocationModifier;
 use libwild::oracle::ValueFlags;
+use std::ffi::CStr;
 use std::hint::black_box;
 use std::slice;
 use std::time::Duration;
@@ -382,17 +385,25 @@ pub fn types(input: &Input) -> (ValueFlags, OutputKind) {
     (input.wild.flags, input.wild.output_kind)
 }
 
-fn port_relax_all(pool: &mut Pool, calls: usize) -> Duration {
-    ask_all(sys::jitamoro_relax, |section| section, numbers, pool, calls)
+fn port_relax(
+    function: Ask<*mut u8, u8, u8, sys::RelaxedAnswer>,
+    pool: &mut Pool,
+    calls: usize,
+) -> Duration {
+    ask_all(function, |section| section, numbers, pool, calls)
 }
 
 fn rust_relax_all(pool: &mut Pool, calls: usize) -> Duration {
     ask_all(rust_relax, |section| section, types, pool, calls)
 }
 
-fn port_choose_all(pool: &mut Pool, calls: usize) -> Duration {
+fn port_choose(
+    function: Ask<*const u8, u8, u8, sys::ChoiceAnswer>,
+    pool: &mut Pool,
+    calls: usize,
+) -> Duration {
     let pointer = |section: *mut u8| section.cast_const();
-    ask_all(sys::jitamoro_new_relaxation, pointer, numbers, pool, calls)
+    ask_all(function, pointer, numbers, pool, calls)
 }
 
 fn rust_choose_all(pool: &mut Pool, calls: usize) -> Duration {
@@ -400,8 +411,8 @@ fn rust_choose_all(pool: &mut Pool, calls: usize) -> Duration {
     ask_all(rust_new_relaxation, pointer, types, pool, calls)
 }
 
-fn port_apply_all(pool: &mut Pool, calls: usize) -> Duration {
-    let function = black_box(sys::jitamoro_apply as PortApply<_>);
+fn port_apply(function: PortApply<sys::MovedAnswer>, pool: &mut Pool, calls: usize) -> Duration {
+    let function = black_box(function);
     pool.run(calls, |input, section| {
         let (kind, inst_offset) = input.kind;
         let (offset, addend) = (input.record.offset, input.record.addend);
@@ -419,12 +430,39 @@ fn rust_apply_all(pool: &mut Pool, calls: usize) -> Duration {
     })
 }
 
+/// The port's function, by its name too, and the Rust's side; between them the same function of another version, if one is
+/// given.
+fn time<F: Copy>(
+    driver: &Driver,
+    name: &str,
+    make: impl FnOnce() -> Pool,
+    (symbol, function): (&CStr, F),
+    port: fn(F, &mut Pool, usize) -> Duration,
+    rust: fn(&mut Pool, usize) -> Duration,
+) {
+    let now = |pool: &mut Pool, calls| port(function, pool, calls);
+    // SAFETY: these functions have had one declaration since version 0.1.0.
+    let Some(function) = (unsafe { before(symbol) }) else {
+        return driver.case(name, RUNS, make, now, rust);
+    };
+    let then = |pool: &mut Pool, calls| port(function, pool, calls);
+    let sides: [Side<Pool>; 3] = [("port", &now), ("before", &then), ("Rust", &rust)];
+    driver.sides(name, RUNS, make, sides);
+}
+
 pub fn time_relax(driver: &Driver, name: &str, make: impl FnOnce() -> Pool) {
-    driver.case(name, RUNS, make, port_relax_all, rust_relax_all);
+    let function: (_, Ask<_, _, _, _>) = (c"jitamoro_relax", sys::jitamoro_relax);
+    time(driver, name, make, function, port_relax, rust_relax_all);
 }
 
 pub fn time_choose(driver: &Driver, name: &str, make: impl FnOnce() -> Pool) {
-    driver.case(name, RUNS, make, port_choose_all, rust_choose_all);
+    let function: (_, Ask<_, _, _, _>) = (c"jitamoro_new_relaxation", sys::jitamoro_new_relaxation);
+    time(driver, name, make, function, port_choose, rust_choose_all);
+}
+
+fn time_apply(driver: &Driver, name: &str, make: impl FnOnce() -> Pool) {
+    let function: (_, PortApply<_>) = (c"jitamoro_apply", sys::jitamoro_apply);
+    time(driver, name, make, function, port_apply, rust_apply_all);
 }
 
 /// The kinds that can be chosen.
@@ -473,13 +511,7 @@ pub fn time_all(driver: &Driver) {
     let short = || Pool::short(&mix());
     time_relax(driver, "relax, mix of kinds", short);
     time_choose(driver, "choose, mix of kinds", short);
-    driver.case(
-        "apply, mix of kinds",
-        RUNS,
-        short,
-        port_apply_all,
-        rust_apply_all,
-    );
+    time_apply(driver, "apply, mix of kinds", short);
     let long = || Pool::long(&mix());
     time_relax(driver, "relax, mix, 256 MiB section", long);
     driver.sides(
@@ -488,10 +520,10 @@ pub fn time_all(driver: &Driver) {
         || LongAndShort(long(), short()),
         [
             ("256 MiB", &|it: &mut LongAndShort, calls| {
-                port_relax_all(&mut it.0, calls)
+                port_relax(sys::jitamoro_relax, &mut it.0, calls)
             }),
             ("64 B", &|it: &mut LongAndShort, calls| {
-                port_relax_all(&mut it.1, calls)
+                port_relax(sys::jitamoro_relax, &mut it.1, calls)
             }),
         ],
     );

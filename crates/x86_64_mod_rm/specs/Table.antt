@@ -1,4 +1,4 @@
--- Document 02, card 3: the table of register forms. Assumes nothing.
+-- Document 02, card 3: the table of register forms, by its rule. Assumes nothing.
 use mathlib.Core.List.{List, [], _∷_}
 use Prim.Native.Nat.{ℕ, zero, suc, _+_}
 use Rattle.rules.specs.Rewrite.{direct}
@@ -13,6 +13,6 @@ abbrev pub rows : ℕ → ℕ → List (List ℕ)
 rows zero m = []
 rows (suc n) m = entries 16 m ∷ rows n (16 + m)
 
--- "a constant table of 256 bytes"
+-- "a constant table of 256 bytes": 16 rows
 unfoldable pub registerForms : List (List ℕ)
 registerForms = rows 16 0

@@ -1,4 +1,4 @@
--- `register_form` meets its contract: the byte's row and its place in it.
+-- `register_form` meets its contract: the byte's row, its place in it, and the rule at each entry.
 -- Assumes nothing.
 use mathlib.Core.List.{[]}
 use Prim.Native.Nat.{_/_, _%_}

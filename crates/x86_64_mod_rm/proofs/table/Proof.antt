@@ -1,4 +1,4 @@
--- `table` meets its contract: one test over all 256 entries.
+-- `table` meets its contract: one test over the whole table, its 256 entries against their rule.
 -- Assumes nothing.
 use mathlib.Core.Path.{refl}
 use Rattle.x86_64_mod_rm.specs.Table.{registerForms}

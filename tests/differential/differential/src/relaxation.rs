@@ -90,6 +90,8 @@ kinds! { inst_offset:
 pub const REX_ADD: u8 = 3;
 pub const REX_ADD_TO_LEA: u8 = 4;
 pub const NO_OP: u8 = 9;
+/// The kinds that read a ModRM byte and write another.
+pub const MOD_RM_KINDS: [u8; 7] = [1, 2, REX_ADD, REX_ADD_TO_LEA, 5, 6, 16];
 
 /// The instruction offsets that a kind allows; 0 alone where it has none.
 pub fn inst_offsets(kind: u8) -> &'static [u8] {

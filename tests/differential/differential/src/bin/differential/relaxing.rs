@@ -7,6 +7,7 @@ use differential::around;
 use differential::ask_port;
 use differential::relaxation;
 use differential::relaxation::KIND_NAMES;
+use differential::relaxation::MOD_RM_KINDS;
 use differential::relaxation::Record;
 use differential::sequences::SEQUENCES;
 use differential::sequences::Sequence;
@@ -89,6 +90,11 @@ impl Comparison {
     ) {
         let answers = &mut self.tally.rewriting;
         answers.count_rewriting(rust.refusal, kind, inst_offset);
+        if rust.refusal == 0 && MOD_RM_KINDS.contains(&kind) {
+            self.tally
+                .mod_rm
+                .count(kind, section.lent()[offset as usize - 1]);
+        }
         let mut after = *section;
         let port = jitamoro::sys::apply(kind, inst_offset, after.lent_mut(), offset, addend);
         self.compare((port, &after.bytes), (*rust, &expected.bytes), || {
@@ -259,6 +265,9 @@ impl Comparison {
             if usize::from(kind) < KIND_NAMES.len() {
                 self.every_offset(kind, 0..=SHORT);
                 self.every_byte_rewritten(kind);
+                if MOD_RM_KINDS.contains(&kind) {
+                    self.every_mod_rm(kind);
+                }
             } else {
                 for length in [0, 3, SHORT] {
                     self.every_offset(kind, length..=length);
@@ -300,6 +309,22 @@ impl Comparison {
             }
             for addend in addend_edges() {
                 self.rewrite((kind, inst_offset), OFFSET as u64, addend, &section);
+            }
+        }
+    }
+}
+
+// Rewriting, by ModRM byte.
+impl Comparison {
+    /// Every ModRM byte with every byte at the prefix's place: -5 of EVEX, -3 of the others.
+    fn every_mod_rm(&mut self, kind: u8) {
+        let mut section = self.random_section(WHOLE);
+        for &inst_offset in relaxation::inst_offsets(kind) {
+            let prefix = OFFSET - if inst_offset == 6 { 5 } else { 3 };
+            for (byte, mod_rm) in (0..=255).flat_map(|b| (0..=255).map(move |m| (b, m))) {
+                section.lent_mut()[prefix] = byte;
+                section.lent_mut()[OFFSET - 1] = mod_rm;
+                self.rewrite((kind, inst_offset), OFFSET as u64, -4, &section);
             }
         }
     }

@@ -1,5 +1,5 @@
 //! How often each answer of choosing, rewriting, relaxing and the pass was seen, those while a skip is pending once
-//! more, and each figure of a pass's tally raised.
+//! more, and each figure of a pass's tally raised; and which ModRM bytes rewriting met.
 
 use differential::pass::BYTES;
 use differential::pass::EMPTY_TYPE;
@@ -7,6 +7,7 @@ use differential::pass::NONE;
 use differential::pass::SKIPPED;
 use differential::relaxation;
 use differential::relaxation::KIND_NAMES;
+use differential::relaxation::MOD_RM_KINDS;
 use differential::relaxation::NO_OP;
 use differential::relaxation::REX_ADD_TO_LEA;
 use differential::relaxation::Record;
@@ -66,8 +67,13 @@ pub struct Run {
     last: u64,
 }
 
+/// The ModRM bytes that were rewritten, a bit each, by kind.
+#[derive(Default)]
+pub struct ModRmBytes([[u64; 4]; 19]);
+
 #[derive(Default)]
 pub struct Tally {
+    pub mod_rm: ModRmBytes,
     pub choosing: Answers,
     pub rewriting: Answers,
     pub relaxing: Answers,
@@ -94,6 +100,30 @@ impl Answers {
             let place = if has { usize::from(inst_offset) } else { 0 };
             self.kinds[usize::from(kind)][place] += 1;
         }
+    }
+}
+
+impl ModRmBytes {
+    pub fn count(&mut self, kind: u8, byte: u8) {
+        self.0[usize::from(kind)][usize::from(byte / 64)] |= 1 << (byte % 64);
+    }
+
+    /// Prints how many were met of each kind that has one, and says how many kinds didn't meet all.
+    fn print(&self) -> usize {
+        println!("{:<28}{:>12}", "", "ModRM bytes");
+        let mut unseen = 0;
+        for kind in MOD_RM_KINDS.map(usize::from) {
+            let met: u32 = self.0[kind].iter().map(|bits| bits.count_ones()).sum();
+            println!("{:<28}{met:>12}", KIND_NAMES[kind]);
+            if met != 256 {
+                println!(
+                    "differential: {}: not all ModRM bytes were met",
+                    KIND_NAMES[kind]
+                );
+                unseen += 1;
+            }
+        }
+        unseen
     }
 }
 
@@ -261,7 +291,7 @@ impl Tally {
             let name = format!("refusal {refusal}");
             unseen += self.print_row(&name, |it| it.refused[refusal], given);
         }
-        unseen + self.pass.print() + self.pending.print()
+        unseen + self.mod_rm.print() + self.pass.print() + self.pending.print()
     }
 
     /// `given` says which of the three functions give this answer.
