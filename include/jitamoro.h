@@ -32,7 +32,7 @@ extern "C" {
 
 /* ---- The version of this header and its archive, as CHANGELOG.md has it */
 
-#define JITAMORO_VERSION "0.5.0"
+#define JITAMORO_VERSION "0.5.1"
 #define JITAMORO_VERSION_MAJOR 0
 #define JITAMORO_VERSION_MINOR 5
 #define JITAMORO_VERSION_PATCH 0

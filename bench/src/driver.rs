@@ -232,21 +232,26 @@ unsafe extern "C" {
 
 const RTLD_NOW: c_int = 2;
 
-/// A function of another version, from the shared object that `JITAMORO_BEFORE` names, if it does.
+/// A function of this version and of another, from the shared objects that `JITAMORO_VERSIONS`
+/// names, if it does: both are loaded alike, since where code lies counts.
 ///
 /// # Safety
 ///
 /// `F` is the function's type, a pointer.
-pub unsafe fn before<F: Copy>(name: &CStr) -> Option<F> {
-    let path = CString::new(env::var("JITAMORO_BEFORE").ok()?).unwrap();
-    // SAFETY: both are strings of C; the library has no code that runs as it is loaded.
-    let function = unsafe { dlsym(dlopen(path.as_ptr(), RTLD_NOW), name.as_ptr()) };
-    if function.is_null() {
-        fail(&format!("{path:?} has no function {name:?}"));
-    }
-    assert_eq!(size_of::<F>(), size_of_val(&function));
-    // SAFETY: a pointer of this type, as the caller says.
-    Some(unsafe { transmute_copy(&function) })
+pub unsafe fn versions<F>(name: &CStr) -> Option<[F; 2]> {
+    let paths = env::var("JITAMORO_VERSIONS").ok()?;
+    let mut functions = paths.split(':').map(|path| {
+        let path = CString::new(path).unwrap();
+        // SAFETY: both are strings of C; the library has no code that runs as it is loaded.
+        let function = unsafe { dlsym(dlopen(path.as_ptr(), RTLD_NOW), name.as_ptr()) };
+        if function.is_null() {
+            fail(&format!("{path:?} has no function {name:?}"));
+        }
+        assert_eq!(size_of::<F>(), size_of_val(&function));
+        // SAFETY: a pointer of this type, as the caller says.
+        unsafe { transmute_copy(&function) }
+    });
+    Some([functions.next()?, functions.next()?])
 }
 
 const CLOCK_THREAD_CPUTIME_ID: i32 = 3;

@@ -6,8 +6,8 @@ use crate::SEED;
 use crate::driver::Driver;
 use crate::driver::Inputs;
 use crate::driver::Side;
-use crate::driver::before;
 use crate::driver::elapsed;
+use crate::driver::versions;
 use differential::Random;
 use differential::relaxation;
 use differential::relaxation::KIND_NAMES;
@@ -430,8 +430,8 @@ fn rust_apply_all(pool: &mut Pool, calls: usize) -> Duration {
     })
 }
 
-/// The port's function, by its name too, and the Rust's side; between them the same function of another version, if one is
-/// given.
+/// The port's function, by its name too, and the Rust's side; with another version, that one's
+/// function between them.
 fn time<F: Copy>(
     driver: &Driver,
     name: &str,
@@ -440,13 +440,16 @@ fn time<F: Copy>(
     port: fn(F, &mut Pool, usize) -> Duration,
     rust: fn(&mut Pool, usize) -> Duration,
 ) {
-    let now = |pool: &mut Pool, calls| port(function, pool, calls);
     // SAFETY: these functions have had one declaration since version 0.1.0.
-    let Some(function) = (unsafe { before(symbol) }) else {
-        return driver.case(name, RUNS, make, now, rust);
+    let Some([now, before]) = (unsafe { versions(symbol) }) else {
+        let port = |pool: &mut Pool, calls| port(function, pool, calls);
+        return driver.case(name, RUNS, make, port, rust);
     };
-    let then = |pool: &mut Pool, calls| port(function, pool, calls);
-    let sides: [Side<Pool>; 3] = [("port", &now), ("before", &then), ("Rust", &rust)];
+    let sides: [Side<Pool>; 3] = [
+        ("port", &|pool, calls| port(now, pool, calls)),
+        ("before", &|pool, calls| port(before, pool, calls)),
+        ("Rust", &rust),
+    ];
     driver.sides(name, RUNS, make, sides);
 }
 
