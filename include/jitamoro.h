@@ -35,7 +35,7 @@ extern "C" {
 #define JITAMORO_VERSION "0.5.1"
 #define JITAMORO_VERSION_MAJOR 0
 #define JITAMORO_VERSION_MINOR 5
-#define JITAMORO_VERSION_PATCH 0
+#define JITAMORO_VERSION_PATCH 1
 
 /* ---- Limits */
 

@@ -242,8 +242,13 @@ pub unsafe fn versions<F>(name: &CStr) -> Option<[F; 2]> {
     let paths = env::var("JITAMORO_VERSIONS").ok()?;
     let mut functions = paths.split(':').map(|path| {
         let path = CString::new(path).unwrap();
-        // SAFETY: both are strings of C; the library has no code that runs as it is loaded.
-        let function = unsafe { dlsym(dlopen(path.as_ptr(), RTLD_NOW), name.as_ptr()) };
+        // SAFETY: a string of C; the library has no code that runs as it is loaded.
+        let library = unsafe { dlopen(path.as_ptr(), RTLD_NOW) };
+        if library.is_null() {
+            fail(&format!("{path:?} can't be loaded"));
+        }
+        // SAFETY: a library that was loaded, and a string of C.
+        let function = unsafe { dlsym(library, name.as_ptr()) };
         if function.is_null() {
             fail(&format!("{path:?} has no function {name:?}"));
         }

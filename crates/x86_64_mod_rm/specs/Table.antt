@@ -1,18 +1,14 @@
--- Document 02, card 3: the table of register forms, by its rule. Assumes nothing.
-use mathlib.Core.List.{List, [], _∷_}
-use Prim.Native.Nat.{ℕ, zero, suc, _+_}
+-- Document 02, card 3: a constant table of 256 bytes, in rows of 16. Assumes nothing.
+use mathlib.Core.Path.{_≡_}
+use mathlib.Core.List.{List, []}
+use Prim.Native.Nat.{ℕ, _/_, _%_, _<_}
+use lib.ListN.{getD}
 use Rattle.rules.specs.Rewrite.{direct}
 
--- "entry m is C0 plus the register field of m": n entries, from that of m on
-abbrev pub entries : ℕ → ℕ → List ℕ
-entries zero m = []
-entries (suc n) m = direct 0 m ∷ entries n (suc m)
+-- entry m of a table
+abbrev pub entry : List (List ℕ) → ℕ → ℕ
+entry table m = getD (getD table (m / 16) []) (m % 16) 0
 
--- n rows of 16, from entry m on
-abbrev pub rows : ℕ → ℕ → List (List ℕ)
-rows zero m = []
-rows (suc n) m = entries 16 m ∷ rows n (16 + m)
-
--- "a constant table of 256 bytes": 16 rows
-unfoldable pub registerForms : List (List ℕ)
-registerForms = rows 16 0
+-- "entry m is C0 plus the register field of m"
+pub record RegisterForms (table : List (List ℕ)) : Type 0 where
+  pub rule : (m : ℕ) → m < 256 → entry table m ≡ direct 0 m

@@ -1,10 +1,9 @@
 // x86_64.rs, apply: the ModRM byte of an instruction whose operand becomes a register, from a table.
 ghost use mathlib.Core.Path.{_≡_};
-ghost use mathlib.Core.List.{[]};
-ghost use Prim.Native.Nat.{_<_};
+ghost use Prim.Native.Nat.{_%_};
 ghost use lib.ListN.{getD};
 ghost use Rattle.rules.specs.Rewrite.{direct};
-ghost use Rattle.x86_64_mod_rm.specs.Table.{registerForms};
+ghost use Rattle.x86_64_mod_rm.specs.Table.{RegisterForms};
 
 // The register form of each ModRM byte: C0 plus its register field, so an entry's last digit is the register's number.
 // The byte's first hexadecimal digit is the row, its last one the place in it.
@@ -31,17 +30,17 @@ const REGISTER_FORMS: [[u8; 16]; 16] = [
 pub fn register_form(mod_rm: u8) -> u8
     ensures { λ r. ⌜ r ≡ direct 0 «mod_rm» ⌝ }
 {
-    let row = row(mod_rm / 16);
+    let row = row(mod_rm);
     row[(mod_rm % 16) as usize]
 }
 
-// A row. Its number is written out, so that the compiler keeps the table in read-only data: with an index that it
-// doesn't know it builds the table on the stack at each use.
-fn row(digit: u8) -> [u8; 16]
-    requires { ⌜ digit < 16 ⌝ }
-    ensures { λ r. ⌜ r ≡ getD registerForms digit [] ⌝ }
+// The row of a ModRM byte. Its number is written out, so that the compiler keeps the table in read-only data: with an
+// index that it doesn't know it builds the table on the stack at each use.
+fn row(mod_rm: u8) -> [u8; 16]
+    ensures { λ r. ⌜ getD r («mod_rm» % 16) 0 ≡ direct 0 «mod_rm» ⌝ }
 {
     let table = table();
+    let digit = mod_rm / 16;
     match digit {
         0x0 => table[0x0],
         0x1 => table[0x1],
@@ -64,7 +63,7 @@ fn row(digit: u8) -> [u8; 16]
 
 // The whole table.
 fn table() -> [[u8; 16]; 16]
-    ensures { λ r. ⌜ r ≡ registerForms ⌝ }
+    ensures { λ r. ⌜ RegisterForms r ⌝ }
 {
     REGISTER_FORMS
 }
