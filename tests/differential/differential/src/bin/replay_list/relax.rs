@@ -22,6 +22,7 @@ use differential::Random;
 use differential::around;
 use differential::relaxation;
 use differential::relaxation::KIND_NAMES;
+use differential::relaxation::MOD_RM_KINDS;
 use differential::relaxation::Record;
 use differential::sequences::SEQUENCES;
 use differential::sequences::Sequence;
@@ -56,6 +57,7 @@ pub fn write() {
     refusals(&mut random);
     (0..19).for_each(|kind| rewritings(kind, &mut random));
     inst_offsets(&mut random);
+    mod_rm_bytes(&mut random);
     (0..64).chain(far_types()).for_each(tells);
 }
 
@@ -247,6 +249,18 @@ fn inst_offsets(random: &mut Random) {
     }
     for inst_offset in 0..=255 {
         let kind = [2, 3, 4, 5, 6, 16][usize::from(inst_offset) % 6];
+        rewrite((kind, inst_offset), OFFSET as u64, -4, &section);
+    }
+}
+
+/// Each ModRM byte once, with the kinds that read one by turns.
+fn mod_rm_bytes(random: &mut Random) {
+    let mut section = [0; LONGEST];
+    for mod_rm in 0..=255 {
+        let kind = MOD_RM_KINDS[usize::from(mod_rm) % MOD_RM_KINDS.len()];
+        random.fill(&mut section);
+        section[OFFSET - 1] = mod_rm;
+        let inst_offset = relaxation::inst_offsets(kind)[0];
         rewrite((kind, inst_offset), OFFSET as u64, -4, &section);
     }
 }
