@@ -1,6 +1,9 @@
 // elf.rs, as far as x86-64 uses them.
 ghost use mathlib.Core.Path.{_≡_};
-ghost use Rattle.rules.specs.Range.{unchecked, within, contains, byteRange, signed64, Keeps};
+ghost use Prim.Native.Nat.{ℕ};
+ghost use lib.ListN.{length};
+ghost use Rattle.rules.specs.Range.{unchecked, within, contains, byteRange, signed64, Keeps, lowFirst, LowPart};
+ghost use Rattle.rules.specs.Rewrite.{wordOf};
 ghost use Rattle.rules.specs.Types.{dynamicType};
 ghost use Rattle.rules.specs.Psabi.{DynamicNames};
 ghost use Rattle.elf.specs.Elf.{rangeOf, rangeFrom, widthOf, signOf, dynamicNumber};
@@ -124,6 +127,31 @@ pub fn as_i64(value: u64) -> i64
         value as i64
     } else {
         !((!value) as i64)
+    }
+}
+
+// The Rust's `value as u64` of an i64.
+pub fn as_u64(value: i64) -> u64
+    ensures { λ r. ⌜ r ≡ wordOf value ⌝ }
+{
+    if value < 0 {
+        return !((!value) as u64);
+    }
+    value as u64
+}
+
+// The low bytes of a value, low byte first, as many as `output` has: the Rust's `to_le_bytes`, at any width. Read back, they
+// are the value's low part.
+pub fn write_low_first(value: u64, output: &mut [u8])
+    ensures { λ _. ⌜ now (output .exit) ≡ lowFirst (length (now (output .entry))) value ⌝ }
+    ensures { λ _. ⌜ ((w : ℕ) → LowPart w) ⌝ }
+{
+    let mut rest = value;
+    let mut i = 0;
+    while i < output.len() {
+        output[i] = (rest % 0x100) as u8;
+        rest = rest / 0x100;
+        i += 1;
     }
 }
 

@@ -2,6 +2,7 @@ pub mod Psabi
 pub mod Widths
 pub mod Records
 pub mod Runs
+pub mod Fill
 pub mod Arith
 pub mod Forms
 pub mod Places

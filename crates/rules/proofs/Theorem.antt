@@ -21,14 +21,27 @@ use Rattle.rules.specs.Meaning.{covered, head, begins, start, Instructio
 use Rattle.rules.specs.Machine.{State, step}
 use Rattle.laws.proofs.Bools.{either}
 use Rattle.laws.proofs.Keys.{is}
+use Rattle.rules.proofs.Fill.{exact}
 use Rattle.rules.proofs.Forms.{addendFor}
 use Rattle.rules.proofs.Places.{oldOps, newOps, digits, newTypes, Start, plain, rex, rex2, lea-at, absolute-at, mov-at, call-at, jmp-at}
 use Rattle.rules.proofs.Walked.{Prefixed, Bare, Cases, walk}
 
+-- what is shown of a record's new type and rewritten section, whatever fills the field
+abbrev Anyhow : List ℕ → Relocation → ℕ → Rewritten → Type 0
+Anyhow sec r t x =
+    (base : ℕ) (s : State) (new : List ℕ)
+    → Filled t (x .addend) (x .offset) base (slotValue sec (r .offset) base (s .mem)) (x .bytes) new
+    → Alike (step sec (start r) base s) (step new (start r) base s)
+
+-- what filling leaves is Filled
+ends-alike : {sec : List ℕ} {r : Relocation} {t : ℕ} {x : Rewritten} → Anyhow sec r t x → EndsAlike sec r t x
+ends-alike {x = x} f =
+    record { anyhow = f; byFill = λ base s new l e. f base s new (exact l (x .bytes) _ .leaves base refl new e) }
+
 -- what a choice means for a record
 abbrev Means : List ℕ → Relocation → Choice → Type 0
 Means sec r none = Unit {0}
-Means sec r (chosen k t m) = EndsAlike sec r t (rewrite k sec (r .offset) (r .addend))
+Means sec r (chosen k t m) = Anyhow sec r t (rewrite k sec (r .offset) (r .addend))
 
 -- an instruction that starts 4 before its field begins with D5
 begins-d5 : (type b : ℕ) → head type ≡ 4 → T (begins type b) → T (eqb b 0xD5)
@@ -65,7 +78,7 @@ module _ (sec : List ℕ) (r : Relocation) (i : Instruction sec r) where
 
   -- the jth operation to an absolute field
   absolute : (n j : ℕ) → j < 5 → Prefixed sec r n → getD sec (off - 2) 0 ≡ getD oldOps j 0
-      → EndsAlike sec r (getD newTypes j 0) (record {
+      → Anyhow sec r (getD newTypes j 0) (record {
         bytes = toAbsolute n (getD newOps j 0) (getD digits j 0) sec off;
         offset = off - 3 + 3;
         addend = addendFor (getD newTypes j 0);
@@ -74,7 +87,7 @@ module _ (sec : List ℕ) (r : Relocation) (i : Instruction sec r) where
       let l : off - 3 + 3 ≡ off = (let h = low (starts n p) in let k = leb→le 3 n (three n (p .offset)) in back 3 off (omega arith)) in
       rw (p .starts) (absolute-at sec new off base s (i .whole) (starts n p) (three n (p .offset)) j k o (i .rip) (rw l at c))
 
-  lea : (n : ℕ) → Start sec off n → head (r .«r_type») ≡ n → r .addend ≡ negsuc 3 → getD sec (off - 2) 0 ≡ 0x8B → EndsAlike sec r 2 (rewrite MovIndirectToLea sec off (r .addend))
+  lea : (n : ℕ) → Start sec off n → head (r .«r_type») ≡ n → r .addend ≡ negsuc 3 → getD sec (off - 2) 0 ≡ 0x8B → Anyhow sec r 2 (rewrite MovIndirectToLea sec off (r .addend))
   lea n b e a o base s new c =
       let l : off - 2 + 2 ≡ off = (let h = low b in back 2 off (omega arith)) in
       rw e (lea-at sec new off base s (i .whole) b o (i .rip) (rw (l, a) at c))
@@ -86,7 +99,7 @@ module _ (sec : List ℕ) (r : Relocation) (i : Instruction sec r) where
       → Filled t (x .addend) (x .offset) base (slotValue sec off base (s .mem)) (x .bytes) new
       → Alike (step sec (off - 2) base s) (step new (off - 2) base s)
 
-  bare : (b : Bare sec r) (t : ℕ) (x : Rewritten) → At2 t x → EndsAlike sec r t x
+  bare : (b : Bare sec r) (t : ℕ) (x : Rewritten) → At2 t x → Anyhow sec r t x
   bare b t x f base s new c = rw (b .type) (f (rw (b .type) at (i .low)) base s new c)
 
   cases : Cases sec r (Means sec r)
@@ -149,7 +162,7 @@ module _ (sec : List ℕ) (r : Relocation) (k : RelaxationKind) (t : ℕ) (m : B
 
   means : (l : Limit) → Instruction sec r → choosing l sec r ≡ gives (chosen k t m) → rewrite k sec (r .offset) (r .addend) ≡ x → EndsAlike sec r t x
   means l i e q =
-      subst (EndsAlike sec r t) q (subst (Means sec r) (chose l sec r (chosen k t m) e) (walk sec r (Means sec r) (cases sec r i)))
+      ends-alike (subst (Anyhow sec r t) q (subst (Means sec r) (chose l sec r (chosen k t m) e) (walk sec r (Means sec r) (cases sec r i))))
 
 pub same-meaning : (sec : List ℕ) → SameMeaning sec
 unfolding relaxing

@@ -1,21 +1,21 @@
--- Worked instances of the theorem, one for each of the eight kinds that the rules choose for these types, and for REX2: each meets all
--- premises. `4C 8B 2D` is among them, and ends with r13 changed and rbp not. Assumes nothing.
+-- Worked instances of the theorem, one for each of the eight kinds that the rules choose for these types, and for REX2: each is relaxed and
+-- filled, and meets all premises. `4C 8B 2D` is among them, and ends with r13 changed and rbp not. Assumes nothing.
 use mathlib.Core.Path.{_≡_}
 use mathlib.Core.Bool.{Bool, true, false, cond, _&&_}
 use mathlib.Core.List.{List, [], _∷_, map}
 use Prim.Native.Nat.{ℕ, _+_, _-_, _*_, _/_, _%_, _^_}
 use lib.Dec.{leb, ltb}
 use lib.ListN.{length, getD}
-use lib.Seq.{sets}
 use lib.IntN.{negsuc}
 use Rattle.rules.specs.Answer.{Answer, gives, refuses}
-use Rattle.rules.specs.Range.{signed64}
 use Rattle.x86_64_kind.specs.declared.RelaxationKind.{RelaxationKind}
 use Rattle.x86_64_kind.specs.Kinds.{shapeOf}
 use Rattle.rules.specs.declared.Relocation.{Relocation}
+use Rattle.rules.specs.declared.Field.{Field}
 use Rattle.rules.specs.Record.{linkLimit, relocation}
-use Rattle.rules.specs.Choose.{Choice, none, chosen, inRange, choosing}
-use Rattle.rules.specs.Rewrite.{Rewritten, Relaxed, unrelaxed, relaxed, rewriting, relaxing, relocated, Filled}
+use Rattle.rules.specs.Choose.{Choice, none, chosen, choosing}
+use Rattle.rules.specs.Rewrite.{Rewritten, Relaxed, unrelaxed, relaxed, rewriting, relaxing, Filled}
+use Rattle.rules.specs.Fill.{field, Fill, unfilled, filled, filling, afterFilling}
 use Rattle.rules.specs.Machine.{State, Flags, Result, stop, stepped, word, signed32, fieldAt, ripRelative, step}
 use Rattle.rules.specs.Meaning.{covered, head, begins, start, Instruction, slotValue, Alike}
 
@@ -46,18 +46,20 @@ relaxingOf c = relaxing linkLimit (c .section) (c .record′)
 abbrev pub valueOf : Case → ℕ
 valueOf c = slotValue (c .section) (c .record′ .offset) (c .base) (stateOf c .mem)
 
--- the number that the field is filled with, and the four stores that fill it
-abbrev pub filling : Case → ℕ → Rewritten → ℕ
-filling c t x = relocated t (valueOf c) (x .addend) (c .base + x .offset)
+-- what fill is given: the new type, offset and addend, the load address of that offset, and the slot's value
+abbrev pub fieldOf : Case → ℕ → Rewritten → Field
+fieldOf c t x = field t (x .offset) ((c .base + x .offset) % word) (valueOf c) (x .addend)
 
-abbrev pub fill : ℕ → ℕ → List ℕ → List ℕ
-fill x at sec = sets sec at (x / 256 ^ 0 % 256 ∷ x / 256 ^ 1 % 256 ∷ x / 256 ^ 2 % 256 ∷ x / 256 ^ 3 % 256 ∷ [])
+abbrev pub fillingOf : Case → Answer Relaxed → Answer Fill
+fillingOf c (refuses n) = refuses n
+fillingOf c (gives unrelaxed) = gives unfilled
+fillingOf c (gives (relaxed k t m x)) = filling linkLimit (x .bytes) (fieldOf c t x)
 
 -- the premises, as one test
-abbrev pub fills : Case → Answer Relaxed → Bool
-fills c (refuses n) = false
-fills c (gives unrelaxed) = false
-fills c (gives (relaxed k t m r)) = inRange t (signed64 (filling c t r)) && leb (r .offset + 4) (length (r .bytes))
+abbrev pub isFilled : Answer Fill → Bool
+isFilled (refuses n) = false
+isFilled (gives unfilled) = false
+isFilled (gives (filled new)) = true
 
 abbrev pub meets : Case → Bool
 meets c =
@@ -65,7 +67,7 @@ meets c =
     let type = r .«r_type» in
     covered type && leb (head type) (r .offset) && leb (r .offset + 4) (length (c .section))
     && begins type (getD (c .section) (start r) 0) && ripRelative (getD (c .section) (r .offset - 1) 0)
-    && fills c (relaxingOf c)
+    && isFilled (fillingOf c (relaxingOf c))
 
 -- what a case shows: it meets every premise of the theorem, and the two steps end alike
 pub record Instance (c : Case) : Type 0 where
@@ -76,12 +78,26 @@ pub record Instance (c : Case) : Type 0 where
   pub result : Rewritten
   pub relaxes : relaxingOf c ≡ gives (relaxed kind newType mandatory result)
   pub new : List ℕ
-  pub filled : Filled newType (result .addend) (result .offset) (c .base) (valueOf c) (result .bytes) new
+  pub fills : filling linkLimit (result .bytes) (fieldOf c newType result) ≡ gives (filled new)
+  pub holds : Filled newType (result .addend) (result .offset) (c .base) (valueOf c) (result .bytes) new
   pub alike : Alike (step (c .section) (start (c .record′)) (c .base) (stateOf c)) (step new (start (c .record′)) (c .base) (stateOf c))
 
--- a load into r13, whose high bit moves
+-- plant one's load, into rbp, and plant two's, into r13, whose high bit moves
+abbrev pub movRbp : Case
+movRbp = case 42 (0x48 ∷ 0x8B ∷ 0x2D ∷ 16 ∷ 0 ∷ 0 ∷ 0 ∷ []) 3 1 0 0x401000 0x402000
+
 abbrev pub movR13 : Case
 movR13 = case 42 (0x4C ∷ 0x8B ∷ 0x2D ∷ 16 ∷ 0 ∷ 0 ∷ 0 ∷ []) 3 1 0 0x401000 0x402000
+
+-- a variable 8 below the thread pointer; a call; a jmp
+abbrev pub addR12 : Case
+addR12 = case 22 (0x4C ∷ 0x03 ∷ 0x25 ∷ 16 ∷ 0 ∷ 0 ∷ 0 ∷ []) 3 1 2 0x401000 0xFFFFFFFFFFFFFFF8
+
+abbrev pub call : Case
+call = case 41 (0xFF ∷ 0x15 ∷ 16 ∷ 0 ∷ 0 ∷ 0 ∷ []) 2 1 1 0x401000 0x402000
+
+abbrev pub jmp : Case
+jmp = case 41 (0xFF ∷ 0x25 ∷ 16 ∷ 0 ∷ 0 ∷ 0 ∷ []) 2 1 1 0x401000 0x402000
 
 -- REX2 with R4 alone: r16
 abbrev pub addR16 : Case
@@ -92,14 +108,15 @@ cases =
     case 42 (0x48 ∷ 0x8B ∷ 0x2D ∷ 16 ∷ 0 ∷ 0 ∷ 0 ∷ []) 3 1 1 0x401000 0x402000
     ∷ case 41 (0x8B ∷ 0x2D ∷ 16 ∷ 0 ∷ 0 ∷ 0 ∷ []) 2 1 0 0x401000 0x402000
     ∷ movR13
-    ∷ case 22 (0x4C ∷ 0x03 ∷ 0x25 ∷ 16 ∷ 0 ∷ 0 ∷ 0 ∷ []) 3 1 2 0x401000 0xFFFFFFFFFFFFFFF8
+    ∷ addR12
     ∷ case 42 (0x4C ∷ 0x2B ∷ 0x2D ∷ 16 ∷ 0 ∷ 0 ∷ 0 ∷ []) 3 3 0 0x401000 0x402000
     ∷ case 42 (0x48 ∷ 0x3B ∷ 0x05 ∷ 16 ∷ 0 ∷ 0 ∷ 0 ∷ []) 3 3 0 0x401000 0x402000
-    ∷ case 41 (0xFF ∷ 0x15 ∷ 16 ∷ 0 ∷ 0 ∷ 0 ∷ []) 2 1 1 0x401000 0x402000
-    ∷ case 41 (0xFF ∷ 0x25 ∷ 16 ∷ 0 ∷ 0 ∷ 0 ∷ []) 2 1 1 0x401000 0x402000
+    ∷ call
+    ∷ jmp
     ∷ case 9 (0x48 ∷ 0x8B ∷ 0x3D ∷ 16 ∷ 0 ∷ 0 ∷ 0 ∷ []) 3 1 1 0x401000 0x402000
     ∷ case 43 (0xD5 ∷ 0x4C ∷ 0x8B ∷ 0x2D ∷ 16 ∷ 0 ∷ 0 ∷ 0 ∷ []) 4 3 1 0x401000 0x402000
     ∷ addR16
+    ∷ movRbp
     ∷ []
 
 abbrev pub kindNumberOf : Case → ℕ
@@ -122,14 +139,12 @@ chosenAs c = by (choosing linkLimit (c .section) (c .record′)) where
   by (gives none) = (gives none, refuses 0)
   by (gives (chosen k t m)) = (gives (chosen k t m), rewriting linkLimit k (c .section) (c .record′ .offset) (negsuc 3))
 
--- a register after the relaxed and filled instruction
-abbrev pub registerAfter : Case → ℕ → ℕ
-registerAfter c k = at (step (new (relaxingOf c)) (start (c .record′)) (c .base) (stateOf c)) where
-  new : Answer Relaxed → List ℕ
-  new (refuses n) = []
-  new (gives unrelaxed) = []
-  new (gives (relaxed k t m r)) = fill (filling c t r) (r .offset) (r .bytes)
+-- the section, relaxed and filled; a register after the instruction
+abbrev pub sectionAfter : Case → List ℕ
+sectionAfter c = afterFilling [] (fillingOf c (relaxingOf c))
 
+abbrev pub registerAfter : Case → ℕ → ℕ
+registerAfter c k = at (step (sectionAfter c) (start (c .record′)) (c .base) (stateOf c)) where
   at : Result → ℕ
   at stop = 0
   at (stepped s a) = s .regs k
@@ -137,10 +152,19 @@ registerAfter c k = at (step (new (relaxingOf c)) (start (c .record′)) (c .bas
 pub record MeaningWorked : Type 0 where
   pub all : map meets cases ≡ map (λ _. true) cases
   pub instances : (c : Case) → meets c ≡ true → Instance c
-  -- MovIndirectToLea, MovIndirectToAbsolute, RexMov, RexAdd, RexSub, RexCmp, Call, Jmp; then type 9, and the REX2 forms
-  pub kinds : map kindNumberOf cases ≡ 0 ∷ 1 ∷ 2 ∷ 3 ∷ 5 ∷ 6 ∷ 7 ∷ 8 ∷ 0 ∷ 2 ∷ 3 ∷ []
+  -- MovIndirectToLea, MovIndirectToAbsolute, RexMov, RexAdd, RexSub, RexCmp, Call, Jmp; then type 9, the REX2 forms, and plant one's
+  pub kinds : map kindNumberOf cases ≡ 0 ∷ 1 ∷ 2 ∷ 3 ∷ 5 ∷ 6 ∷ 7 ∷ 8 ∷ 0 ∷ 2 ∷ 3 ∷ 2 ∷ []
   -- the same cases meet the premises of choosing and then rewriting
   pub steps : map chosenAs cases ≡ map (λ (c : Case). relaxedAs (relaxingOf c)) cases
+  -- the fields' bytes: the address itself; −8; the address less 4 and less the field's own, 0x401002 in the call and 0x401001 in the jmp
+  pub sections :
+      map sectionAfter (movRbp ∷ movR13 ∷ addR12 ∷ call ∷ jmp ∷ [])
+      ≡ (0x48 ∷ 0xC7 ∷ 0xC5 ∷ 0x00 ∷ 0x20 ∷ 0x40 ∷ 0x00 ∷ [])
+      ∷ (0x49 ∷ 0xC7 ∷ 0xC5 ∷ 0x00 ∷ 0x20 ∷ 0x40 ∷ 0x00 ∷ [])
+      ∷ (0x49 ∷ 0x81 ∷ 0xC4 ∷ 0xF8 ∷ 0xFF ∷ 0xFF ∷ 0xFF ∷ [])
+      ∷ (0x67 ∷ 0xE8 ∷ 0xFA ∷ 0x0F ∷ 0x00 ∷ 0x00 ∷ [])
+      ∷ (0xE9 ∷ 0xFB ∷ 0x0F ∷ 0x00 ∷ 0x00 ∷ 0x90 ∷ [])
+      ∷ []
   pub r13 : registerAfter movR13 13 ≡ 0x402000
   pub rbp : registerAfter movR13 5 ≡ 5 * 16
   -- r16 held 16 * 16, and r8 is as it was

@@ -4,6 +4,7 @@ pub mod Range
 pub mod Types
 pub mod Choose
 pub mod Rewrite
+pub mod Fill
 pub mod Machine
 pub mod Meaning
 pub mod Plt

@@ -12,6 +12,7 @@ use Rattle.rules.specs.Answer.{gives}
 use Rattle.rules.specs.Record.{Limit}
 use Rattle.rules.specs.Choose.{chosen, choosing, isRexW}
 use Rattle.rules.specs.Rewrite.{Rewritten, rewriting, relaxed, relaxing, Filled}
+use Rattle.rules.specs.Fill.{field, filled, filling}
 use Rattle.rules.specs.Machine.{State, Result, stepped, word, signed32, fieldAt, read8, ripRelative, step}
 
 -- "types 9, 22 and 41 to 44"
@@ -48,11 +49,18 @@ pub record Alike (x y : Result) : Type 0 where
   pub second : y ≡ stepped after goesOn
 
 -- a record whose new type is t, with its section rewritten: for every load address, state and filled section
-abbrev pub EndsAlike : List ℕ → Relocation → ℕ → Rewritten → Type 0
-EndsAlike sec r t x =
-    (base : ℕ) (s : State) (new : List ℕ)
-    → Filled t (x .addend) (x .offset) base (slotValue sec (r .offset) base (s .mem)) (x .bytes) new
-    → Alike (step sec (start r) base s) (step new (start r) base s)
+pub record EndsAlike (sec : List ℕ) (r : Relocation) (t : ℕ) (x : Rewritten) : Type 0 where
+  -- whatever program filled it
+  pub anyhow :
+      (base : ℕ) (s : State) (new : List ℕ)
+      → Filled t (x .addend) (x .offset) base (slotValue sec (r .offset) base (s .mem)) (x .bytes) new
+      → Alike (step sec (start r) base s) (step new (start r) base s)
+  -- document 02, card 4: "the fill being given relaxing's type, offset and addend, the load address of that offset, and the slot's value as
+  -- symbol value"
+  pub byFill :
+      (base : ℕ) (s : State) (new : List ℕ) (l : Limit)
+      → filling l (x .bytes) (field t (x .offset) ((base + x .offset) % word) (slotValue sec (r .offset) base (s .mem)) (x .addend)) ≡ gives (filled new)
+      → Alike (step sec (start r) base s) (step new (start r) base s)
 
 -- what is said of a section's records, whatever the limit
 pub record SameMeaning (sec : List ℕ) : Type 0 where

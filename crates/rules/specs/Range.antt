@@ -1,7 +1,8 @@
 -- Document 01's ranges of a 64-bit value: "a range means min ≤ v < max .. and the unchecked range any v". Assumes nothing.
 use mathlib.Core.Bool.{Bool, true, cond, _&&_, _||_}
+use mathlib.Core.List.{List, [], _∷_}
 use mathlib.Core.Path.{_≡_}
-use Prim.Native.Nat.{ℕ, _+_, _-_, _*_, _/_, _%_, _^_, _<_}
+use Prim.Native.Nat.{ℕ, zero, suc, _+_, _-_, _*_, _/_, _%_, _^_, _<_}
 use lib.Dec.{eqb, ltb}
 use lib.IntN.{ℤ, pos, negsuc}
 use lib.Signed.{leZ, ltZ}
@@ -43,3 +44,16 @@ readBack w unsigned f = f
 -- the one fact of "field widths 1, 2, 4 and 8": a value lies in the range exactly where its low w bytes, read back, are the value
 pub record Keeps (w : ℕ) (s : Sign) (r : Range) : Type 0 where
   pub keeps : (x : ℕ) → x < 2 ^ 64 → contains r (signed64 x) ≡ eqb (readBack w s (x % 2 ^ (8 * w))) x
+
+-- "low byte first": the w low bytes of a number, and the number that such bytes are
+abbrev pub lowFirst : ℕ → ℕ → List ℕ
+lowFirst zero x = []
+lowFirst (suc w) x = x % 256 ∷ lowFirst w (x / 256)
+
+abbrev pub fromLow : List ℕ → ℕ
+fromLow [] = 0
+fromLow (b ∷ s) = b + 256 * fromLow s
+
+-- the fact of a field as it is written, at any width: the bytes, read back, are the number's low part
+pub record LowPart (w : ℕ) : Type 0 where
+  pub reads : (x : ℕ) → fromLow (lowFirst w x) ≡ x % 2 ^ (8 * w)

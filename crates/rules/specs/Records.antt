@@ -1,14 +1,15 @@
--- Document 01's numbers in figures, and its records that are not starred and not of relaxing. Assumes nothing.
+-- Document 01's numbers in figures, its records that are not starred and not of relaxing, and card 4's numbers of document 02. Assumes nothing.
 use mathlib.Core.Path.{_≡_}
 use mathlib.Core.Bool.{true, false}
 use mathlib.Core.List.{List, [], _∷_, _++_, map}
-use Prim.Native.Nat.{ℕ, zero, suc, _+_}
-use lib.IntN.{pos, negsuc}
+use Prim.Native.Nat.{ℕ, zero, suc, _+_, _-_, _^_}
+use lib.IntN.{ℤ, pos, negsuc}
 use lib.ListN.{length, replicate}
 use Rattle.rules.specs.Answer.{Answer, gives, refuses}
 use Rattle.rules.specs.Range.{Range, within, unchecked}
 use Rattle.rules.specs.Types.{Entry, Row, types, lookup}
 use Rattle.rules.specs.Choose.{needsGotFallback}
+use Rattle.rules.specs.Fill.{Fill, unfilled, filled, field, filling}
 use Rattle.rules.specs.Plt.{template, pltAnswer, pltBytes}
 
 abbrev rangeAt : ℕ → Answer Range
@@ -47,3 +48,36 @@ pub record PltWorked : Type 0 where
   pub blank : pltBytes (lent 16) (0x401020 + 10 + 2147483648) 0x401020 ≡ template
   -- 8 changes nothing
   pub short : pltBytes (lent 15) 0x404000 0x401020 ≡ lent 15
+
+-- a type, the bytes lent, an offset, the field's address, value and addend; sections of more than 8 bytes are too long
+abbrev fillAt : ℕ → ℕ → ℕ → ℕ → ℕ → ℤ → Answer Fill
+fillAt t n at p v a = filling (record { most = 8; refusal = 1 }) (lent n) (field t at p v a)
+
+-- type t in four bytes, with addend 0
+abbrev fill4 : ℕ → ℕ → Answer Fill
+fill4 t v = fillAt t 4 0 0 v (pos 0)
+
+abbrev bytes4 : ℕ → ℕ → ℕ → ℕ → Answer Fill
+bytes4 a b c d = gives (filled (a ∷ b ∷ c ∷ d ∷ []))
+
+pub record FillWorked : Type 0 where
+  -- "The order is 1, 2, 7, 16, 15": each with all that come after it
+  pub order :
+      fillAt 28 9 10 0 (2 ^ 64 - 1) (pos 0) ∷ fillAt 28 3 4 0 (2 ^ 64 - 1) (pos 0) ∷ fillAt 28 3 3 0 (2 ^ 64 - 1) (pos 0)
+      ∷ fillAt 10 3 0 0 (2 ^ 64 - 1) (pos 0) ∷ fillAt 10 4 0 0 (2 ^ 64 - 1) (pos 0) ∷ []
+      ≡ refuses 1 ∷ refuses 2 ∷ refuses 7 ∷ refuses 16 ∷ refuses 15 ∷ []
+  -- "with no test of 16 or 15", "in an empty section too"
+  pub others : map (λ (t : ℕ). fillAt t 0 0 0 (2 ^ 64 - 1) (pos 0)) (0 ∷ 1 ∷ 4 ∷ 22 ∷ 25 ∷ []) ≡ replicate 5 (gives unfilled)
+  -- "type 10 takes 2^32 − 1 and refuses −1; 2^63 and 2^64 − 1 are read as signed"
+  pub unsigned32 :
+      map (fill4 10) (0 ∷ (2 ^ 32 - 1) ∷ (2 ^ 32) ∷ (2 ^ 63) ∷ (2 ^ 64 - 1) ∷ [])
+      ≡ bytes4 0 0 0 0 ∷ bytes4 0xFF 0xFF 0xFF 0xFF ∷ refuses 15 ∷ refuses 15 ∷ refuses 15 ∷ []
+  pub signed32 :
+      map (fill4 11) ((2 ^ 31 - 1) ∷ (2 ^ 31) ∷ (2 ^ 63) ∷ (2 ^ 64 - 2 ^ 31 - 1) ∷ (2 ^ 64 - 2 ^ 31) ∷ (2 ^ 64 - 1) ∷ [])
+      ≡ bytes4 0xFF 0xFF 0xFF 0x7F ∷ refuses 15 ∷ refuses 15 ∷ refuses 15 ∷ bytes4 0 0 0 0x80 ∷ bytes4 0xFF 0xFF 0xFF 0xFF ∷ []
+  -- "wrapping in the middle of the sum is no refusal"; the address counts for type 2 alone, and is given, not computed from the offset
+  pub wraps :
+      fillAt 10 4 0 7 (2 ^ 64 - 1) (pos 5) ∷ fillAt 2 4 0 7 3 (negsuc 3) ∷ fillAt 2 4 0 (2 ^ 64 - 1) 0 (pos 0) ∷ []
+      ≡ bytes4 4 0 0 0 ∷ bytes4 0xF8 0xFF 0xFF 0xFF ∷ bytes4 1 0 0 0 ∷ []
+  -- "up to its very end is inside", and no other byte is written
+  pub ends : fillAt 23 8 4 0 0x1234 (pos 0) ∷ fillAt 23 8 5 0 0x1234 (pos 0) ∷ [] ≡ gives (filled (lent 4 ++ (0x34 ∷ 0x12 ∷ 0 ∷ 0 ∷ []))) ∷ refuses 16 ∷ []

@@ -21,6 +21,16 @@ pub struct Relocation {
     pub addend: i64,
 }
 
+// "the new type, the field's offset and address, symbol value and addend": a field to fill. For type 23 the value is the
+// thread-pointer offset. The address is given, and not computed from the offset.
+pub struct Field {
+    pub r_type: u32,
+    pub offset: u64,
+    pub address: u64,
+    pub value: u64,
+    pub addend: i64,
+}
+
 // The longest section, in bytes. The theorems about the definitions, for all of them, and what keeps them from being
 // about nothing are promised here: worked instances of same meaning, a machine that takes a real CPU's steps, and rules
 // that give document 01's records.
