@@ -1,12 +1,13 @@
 -- Laws of putting text into a buffer: two texts one after the other, a bound made larger, and the turns of the loops that store.
 -- Assumes nothing.
 use mathlib.Core.Path.{_≡_, refl, sym, ap, _∙_}
-use mathlib.Core.List.{List, [], _∷_, _++_, append-nil}
+use mathlib.Core.List.{List, [], _∷_, _++_}
 use Prim.Native.Nat.{ℕ, suc, _+_, _-_, _*_, _/_, _%_, _≤_, _<_}
 use native.Mathlib.Nat.{suc-ne-zero}
 use native.Mathlib.Omega.{arith}
-use lib.ListN.{length, getD, set, take, drop, length-append, length-drop, drop-of-length-le}
-use lib.Seq.{sets, sets-eq, drop-cons, drop-length, length-take-le}
+use lib.ListN.{length, getD, set, take, drop, length-append, length-drop}
+use lib.Seq.{sets, drop-cons, drop-length, length-take-le}
+use Rattle.laws.proofs.Stores.{run-whole}
 use Rattle.io.specs.Digits.{glyph}
 use Rattle.case_file.specs.Text.{hexOf, hex}
 use Rattle.case_file.specs.Parts.{Puts}
@@ -84,20 +85,14 @@ spelled s t new at i some e l h =
       size = l;
     }
 
--- a text as long as the buffer fills it: the copy of a section
-all : (s t : List ℕ) → length t ≡ length s → sets s 0 t ≡ t
-all s t e =
-    sets-eq t s 0 (omega (arith, e))
-    ∙ ap (λ (r : List ℕ). t ++ r) (drop-of-length-le s {i = 0 + length t} (omega (arith, e)))
-    ∙ append-nil t
-
+-- the copy of a section
 pub copied :
     (s file new : List ℕ) (start len m n : ℕ) → start + len ≤ length file → length s ≡ len
     → Puts s 0 (take (start + len - start) (drop start file)) m new n → new ≡ take len (drop start file)
 copied s file new start len m n h l p =
     let e : start + len - start ≡ len = omega arith in
     let k : length (take len (drop start file)) ≡ length s = length-take-le len (drop start file) (rw (length-drop start file) (omega arith)) ∙ sym l in
-    rw e at (p .bytes) ∙ all s (take len (drop start file)) k
+    rw e at (p .bytes) ∙ run-whole (take len (drop start file)) s k
 
 -- the same with a larger bound
 pub looser : {s t new : List ℕ} {at n m : ℕ} (k : ℕ) → m ≤ k → Puts s at t m new n → Puts s at t k new n

@@ -7,6 +7,7 @@ use native.Mathlib.Nat.{zero-add, le-of-suc-le-suc, not-suc-le-zero, sub-add-can
 use native.Mathlib.Omega.{arith}
 use lib.ListN.{length, take, drop, replicate, length-replicate, replicate-append-replicate, drop-of-length-le}
 use lib.Seq.{sets, sets-eq, length-sets, take-append-le}
+use Rattle.laws.proofs.Stores.{run-whole}
 
 take-same : (j k b : ℕ) → j ≤ k → take j (replicate k b) ≡ replicate j b
 take-same zero k b h = refl
@@ -25,6 +26,4 @@ ends k b l p q =
     (rw (head, take-append-le (length l - k) run (drop k l) (omega arith), take-same (length l - k) k b (omega arith), replicate-append-replicate) (ap (λ (m : ℕ). replicate m b) (sub-add-cancel p)))
 
 pub whole : (b : ℕ) (l : List ℕ) → sets l 0 (replicate (length l) b) ≡ replicate (length l) b
-whole b l =
-    let n : length (replicate (length l) b) ≡ length l = length-replicate (length l) b in
-    sets-eq (replicate (length l) b) l 0 (omega arith) ∙ rw (n, zero-add, drop-of-length-le l {i = length l} (omega arith), append-nil)
+whole b l = run-whole (replicate (length l) b) l (length-replicate (length l) b)

@@ -4,7 +4,8 @@ ghost use mathlib.Core.Bool.{true};
 ghost use Prim.Native.Nat.{_+_, _≤_};
 ghost use lib.ListN.{length, replicate};
 ghost use lib.Seq.{sets};
-ghost use Rattle.rules.specs.Plt.{pltAnswer, pltBytes, padding, displacement, lowFirst, template};
+ghost use Rattle.rules.specs.Range.{lowFirst};
+ghost use Rattle.rules.specs.Plt.{pltAnswer, pltBytes, padding, displacement, template};
 ghost use Rattle.rules.specs.Records.{PltWorked};
 ghost use Rattle.elf_x86_64_plt.specs.Plt.{entryAnswer};
 use elf::AllowedRange;
@@ -40,10 +41,10 @@ pub fn write_plt_entry(plt_entry: &mut [u8], got_address: u64, plt_address: u64)
 
 fn write_entry(entry: &mut [u8], displacement: u64)
     requires { ⌜ length (now entry) ≡ 16 ⌝ }
-    ensures { λ _. ⌜ now (entry .exit) ≡ sets template 6 (lowFirst displacement) ⌝ }
+    ensures { λ _. ⌜ now (entry .exit) ≡ sets template 6 (lowFirst 4 displacement) ⌝ }
 {
     write_template(entry);
-    put_low_first(entry, 6, displacement);
+    elf::write_low_first(displacement, &mut entry[6..10]);
 }
 
 // PLT_ENTRY_TEMPLATE: endbr64; jmp *{relative GOT address}(%rip); nopw 0x0(%rax,%rax,1)
@@ -55,17 +56,6 @@ fn write_template(plt_entry: &mut [u8])
         b"\xf3\x0f\x1e\xfa\xff\x25\x00\x00\x00\x00\x66\x0f\x1f\x44\x00\x00",
         plt_entry,
     );
-}
-
-// The low four bytes of a value, low byte first.
-fn put_low_first(section: &mut [u8], at: usize, value: u64)
-    requires { ⌜ at + 4 ≤ length (now section) ⌝ }
-    ensures { λ _. ⌜ now (section .exit) ≡ sets (now (section .entry)) at (lowFirst value) ⌝ }
-{
-    section[at] = (value % 0x100) as u8;
-    section[at + 1] = (value / 0x100 % 0x100) as u8;
-    section[at + 2] = (value / 0x1_0000 % 0x100) as u8;
-    section[at + 3] = (value / 0x100_0000 % 0x100) as u8;
 }
 
 // From the end of the jump at byte 10 of the entry to the GOT entry.

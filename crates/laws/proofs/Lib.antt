@@ -2,3 +2,5 @@ pub mod Keys
 pub mod Bytes
 pub mod Bools
 pub mod Stores
+pub mod Signs
+pub mod Wrap

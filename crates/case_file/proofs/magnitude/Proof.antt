@@ -1,6 +1,6 @@
 -- `magnitude` meets its contract: the bits of a negative number, inverted, are its size less 1.
 -- Assumes nothing.
-use Rattle.case_file.proofs.Signs.{flipped, at-least-0}
+use Rattle.laws.proofs.Signs.{flipped, at-least-0}
 use mir.Facts.{toZ-ofZ}
 use mir.Syntax.{w64}
 use native.Mathlib.Omega.{arith}

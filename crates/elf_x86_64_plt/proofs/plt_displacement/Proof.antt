@@ -1,15 +1,12 @@
 -- `plt_displacement` meets its contract: the number that PLT + 10 added to wraps back to GOT is the wrapping difference.
 -- Assumes nothing.
-use mathlib.Core.Path.{_≡_, sym}
-use Prim.Native.Nat.{ℕ, _+_, _-_, _%_, _^_, _<_}
+use mathlib.Core.Path.{sym}
 use native.Mathlib.Omega.{arith}
 use borrow.Author.Needs.{needs}
+use Rattle.laws.proofs.Wrap.{wraps}
 use Rattle.rules.specs.Plt.{displacement}
 use Rattle.elf_x86_64_plt.proofs.plt_displacement.Statement.{statement}
 use Rattle.elf_x86_64_plt.proofs.plt_displacement.Tie as tie
-
-wraps : (r a b : ℕ) → r < 2 ^ 64 → b < 2 ^ 64 → (r + b) % 2 ^ 64 ≡ a → r ≡ (a + (2 ^ 64 - b)) % 2 ^ 64
-wraps r a b p q e = omega arith
 
 pub plt-displacement-spec : {M : Type 1} → statement M
 unfolding displacement
