@@ -38,7 +38,7 @@ pub fn fill(section_bytes: &mut [u8], field: Field) -> Filled
         return Filled::Refused(2);
     }
     match x86_64_types::relocation_from_raw(field.r_type) {
-        RelocationFound::Refused(n) => Filled::Refused(n),
+        RelocationFound::Refused(_) => Filled::Refused(7),
         RelocationFound::Is(info) => {
             let filled = is_filled(field.r_type);
             if filled {

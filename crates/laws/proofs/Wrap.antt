@@ -4,6 +4,6 @@ use mathlib.Core.Path.{_≡_}
 use Prim.Native.Nat.{ℕ, _+_, _-_, _%_, _^_, _<_}
 use native.Mathlib.Omega.{arith}
 
--- the number that b added to wraps back to a
-pub wraps : (r a b : ℕ) → r < 2 ^ 64 → b < 2 ^ 64 → (r + b) % 2 ^ 64 ≡ a → r ≡ (a + (2 ^ 64 - b)) % 2 ^ 64
-wraps r a b p q e = omega arith
+-- a number that b added to gives a is a − b
+pub wraps : (r a b : ℕ) → r < 2 ^ 64 → (r + b) % 2 ^ 64 ≡ a % 2 ^ 64 → r ≡ (a + (2 ^ 64 - b % 2 ^ 64)) % 2 ^ 64
+wraps r a b h e = omega arith

@@ -1,6 +1,6 @@
 -- `plt_displacement` meets its contract: the number that PLT + 10 added to wraps back to GOT is the wrapping difference.
 -- Assumes nothing.
-use mathlib.Core.Path.{sym}
+use Prim.Native.Nat.{_+_}
 use native.Mathlib.Omega.{arith}
 use borrow.Author.Needs.{needs}
 use Rattle.laws.proofs.Wrap.{wraps}
@@ -14,4 +14,7 @@ plt-displacement-spec =
     tie.close
     (tie.spec
     (λ c κs. search needs) (λ c κs. search needs)
-    (λ c. let d = c .before in rw (sym (d .wrapping-add-u64 .ensures)) (wraps (c .wrapping-sub-u64 .result) (d .before .args .got-address) (d .wrapping-add-u64 .result) (omega arith) (omega arith) (c .wrapping-sub-u64 .ensures))))
+    (λ c. let d = c .before in
+    let e = d .wrapping-add-u64 .ensures in
+    let f = c .wrapping-sub-u64 .ensures in
+    wraps (c .wrapping-sub-u64 .result) (d .before .args .got-address) (d .before .args .plt-address + 10) (omega arith) (omega arith)))
