@@ -79,5 +79,7 @@ pub record FillWorked : Type 0 where
   pub wraps :
       fillAt 10 4 0 7 (2 ^ 64 - 1) (pos 5) ∷ fillAt 2 4 0 7 3 (negsuc 3) ∷ fillAt 2 4 0 (2 ^ 64 - 1) 0 (pos 0) ∷ []
       ≡ bytes4 4 0 0 0 ∷ bytes4 0xF8 0xFF 0xFF 0xFF ∷ bytes4 1 0 0 0 ∷ []
-  -- "up to its very end is inside", and no other byte is written
-  pub ends : fillAt 23 8 4 0 0x1234 (pos 0) ∷ fillAt 23 8 5 0 0x1234 (pos 0) ∷ [] ≡ gives (filled (lent 4 ++ (0x34 ∷ 0x12 ∷ 0 ∷ 0 ∷ []))) ∷ refuses 16 ∷ []
+  -- "It writes four bytes, low byte first, and no others"; "up to its very end is inside"
+  pub ends :
+      map (λ (at : ℕ). fillAt 23 8 at 0 0x1234 (pos 0)) (3 ∷ 4 ∷ 5 ∷ [])
+      ≡ gives (filled (lent 3 ++ (0x34 ∷ 0x12 ∷ 0 ∷ 0 ∷ 0xA5 ∷ []))) ∷ gives (filled (lent 4 ++ (0x34 ∷ 0x12 ∷ 0 ∷ 0 ∷ []))) ∷ refuses 16 ∷ []
