@@ -32,10 +32,10 @@ extern "C" {
 
 /* ---- The version of this header and its archive, as CHANGELOG.md has it */
 
-#define JITAMORO_VERSION "0.5.1"
+#define JITAMORO_VERSION "0.6.0"
 #define JITAMORO_VERSION_MAJOR 0
-#define JITAMORO_VERSION_MINOR 5
-#define JITAMORO_VERSION_PATCH 1
+#define JITAMORO_VERSION_MINOR 6
+#define JITAMORO_VERSION_PATCH 0
 
 /* ---- Limits */
 
@@ -73,6 +73,8 @@ extern "C" {
     X(JITAMORO_REFUSED_CUT, 11, "the file ends inside a record")                                            \
     X(JITAMORO_REFUSED_EXECUTABLE, 12, "the executable byte is neither 0 nor 1")                            \
     X(JITAMORO_REFUSED_RECORD_LENGTH, 13, "the record's section is longer than 4,096 bytes")                \
+    X(JITAMORO_REFUSED_VALUE, 15, "the value lies outside the field's range")                               \
+    X(JITAMORO_REFUSED_FIELD, 16, "the field's four bytes don't lie wholly in the section")                 \
     X(JITAMORO_REFUSED_PASS_ENDED, 21, "the pass has ended")                                                \
     X(JITAMORO_REFUSED_ORDER, 22, "the offset lies below the last record's")                                \
     X(JITAMORO_REFUSED_OVERLAP, 23, "the bytes to rewrite begin before the end of those rewritten last")    \
@@ -281,6 +283,13 @@ struct jitamoro_relaxed {
     int64_t addend;  /* and its addend */
 };
 
+/* Whether a field was filled. TEST `refusal` AND THEN `filled`: neither refused nor filled means that the type is none
+   of the four that jitamoro_fill fills, and nothing was written. */
+struct jitamoro_filled {
+    uint8_t refusal;
+    bool filled;
+};
+
 /* A walk over a section's records, held in place by the caller. Any words are a pass. */
 struct jitamoro_pass {
     uint64_t last;    /* the last accepted record's offset */
@@ -456,6 +465,27 @@ static inline struct jitamoro_step jitamoro_tally_step_record(struct jitamoro_pa
     return jitamoro_stepped_(record, jitamoro_tally_step(pass, tally, JITAMORO_OF_(record, section, len)));
 }
 
+/* ---- Filling the field */
+
+/*
+ * Fills a field of type 2 (PC32), 10 (32), 11 (32S) or 23 (TPOFF32): value + addend, for type 2 less `address`, both
+ * wrapping at 2^64; its low four bytes go to `offset`, low byte first, and no other byte changes. `address` is the
+ * field's own, where the program will have it: it is taken as it is given, and not computed from the offset. `value` is
+ * the symbol's address, and for type 23 its offset from the thread pointer. Every other type of
+ * jitamoro_relocation_from_raw, 0 (NONE) and 4 (PLT32) among them, is neither filled nor refused. Refusals 1, 2, 7; then,
+ * of the four types, 16 and 15: the sum, read as signed, isn't in the type's range (jitamoro_relocation_from_raw).
+ */
+struct jitamoro_filled jitamoro_fill(uint32_t r_type, uint8_t *section, size_t len, uint64_t offset, uint64_t address,
+                                     uint64_t value, int64_t addend);
+
+/* jitamoro_fill for a record as relaxing or a step has left it: its type, offset and addend, with the address and value
+   that are told. The record's own `address` isn't asked, since for type 23 the value is another. A skipped record, whose
+   type is now 0, is left alone. */
+static inline struct jitamoro_filled jitamoro_fill_record(const struct jitamoro_record *record, uint8_t *section,
+                                                          size_t len, uint64_t address, uint64_t value) {
+    return jitamoro_fill(record->r_type, section, len, record->offset, address, value, record->addend);
+}
+
 /* ---- Types, ranges, PLT entries, padding */
 
 /* The row of a relocation type. Refusal 7. */
@@ -567,6 +597,10 @@ JITAMORO_SIZE_(struct jitamoro_relaxed, 32);
 JITAMORO_AT_(jitamoro_relaxed, choice, 0);
 JITAMORO_AT_(jitamoro_relaxed, offset, 16);
 JITAMORO_AT_(jitamoro_relaxed, addend, 24);
+
+JITAMORO_SIZE_(struct jitamoro_filled, 2);
+JITAMORO_AT_(jitamoro_filled, refusal, 0);
+JITAMORO_AT_(jitamoro_filled, filled, 1);
 
 JITAMORO_SIZE_(struct jitamoro_record, 32);
 JITAMORO_AT_(jitamoro_record, offset, 0);

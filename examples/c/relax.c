@@ -1,4 +1,4 @@
-/* Relaxes a record, walks a section with a pass and a tally, and writes a PLT entry. */
+/* Relaxes a record and fills its field, walks a section with a pass and a tally, and writes a PLT entry. */
 #include <inttypes.h>
 #include <jitamoro.h>
 #include <stdio.h>
@@ -39,7 +39,18 @@ static struct jitamoro_record record_at(uint32_t r_type, uint64_t offset) {
     return record;
 }
 
-/* mov x@GOTPCREL(%rip), %r13 becomes mov $x, %r13; with another addend nothing is done */
+/* Fills what a record says now. A type that isn't filled here, as that of a GOT entry, is the caller's to fill. */
+static void fill(const struct jitamoro_record *record, uint64_t load_address, uint64_t value, uint8_t *section,
+                 size_t len) {
+    struct jitamoro_filled f = jitamoro_fill_record(record, section, len, load_address + record->offset, value);
+    if (f.refusal != JITAMORO_NOT_REFUSED) {
+        print_refusal(f.refusal);
+    } else {
+        puts(f.filled ? "filled" : "not filled here");
+    }
+}
+
+/* mov x@GOTPCREL(%rip), %r13 becomes mov $x, %r13, with x in its field; with another addend nothing is done */
 static bool one_record(int64_t addend) {
     uint8_t section[7] = {0x4c, 0x8b, 0x2d};
     struct jitamoro_record record = record_at(JITAMORO_R_X86_64_REX_GOTPCRELX, 3);
@@ -47,8 +58,14 @@ static bool one_record(int64_t addend) {
     struct jitamoro_choice choice = jitamoro_relax_record(&record, section, sizeof section);
     printf("one record: ");
     print_choice(choice, &record);
+    if (choice.refusal != JITAMORO_NOT_REFUSED) {
+        return false;
+    }
     print_bytes(section, sizeof section);
-    return choice.refusal == JITAMORO_NOT_REFUSED;
+    printf("  ");
+    fill(&record, 0x400000, record.address, section, sizeof section);
+    print_bytes(section, sizeof section);
+    return true;
 }
 
 /* A record of the walk: what it is, and where. */

@@ -133,6 +133,34 @@ impl platform::Relaxation for jitamoro::Relaxation {
     }
 }
 
+/// In the writer, in place of `rel_info.write_to_buffer(value, &mut section_bytes[offset_in_section..])`: the value is
+/// computed, with the addend in it and the place out of it. What isn't filled stays with `write_to_buffer`.
+fn write_value(
+    r_type: object::elf::RelocationType,
+    rel_info: RelocationKindInfo,
+    value: u64,
+    section_bytes: &mut [u8],
+    offset_in_section: u64,
+) -> Result {
+    let field = jitamoro::Field {
+        relocation_kind: r_type.0,
+        offset_in_section,
+        address: 0,
+        value,
+        addend: 0,
+    };
+    let fill = jitamoro::fill(&field, section_bytes).with_context(|| {
+        let r_type = <ElfX86_64 as platform::Arch>::rel_type_to_string(r_type);
+        format!("Failed to write {r_type} at {offset_in_section:#x}")
+    })?;
+    match fill {
+        jitamoro::Fill::Filled => Ok(()),
+        jitamoro::Fill::Nothing => {
+            rel_info.write_to_buffer(value, &mut section_bytes[offset_in_section as usize..])
+        }
+    }
+}
+
 /// Wild's malfunction points for x86-64: each drops one kind.
 fn is_malfunction(kind: jitamoro::RelaxationKind) -> bool {
     use jitamoro::RelaxationKind;
@@ -302,6 +330,28 @@ mod tests {
             "Failed to apply MovIndirectToLea",
         ];
         assert_eq!(short.unwrap_err().0, expected);
+    }
+
+    /// A type that `fill` fills, and one that stays wild's own.
+    #[test]
+    fn values() {
+        let write = |r_type, value, section: &mut [u8]| {
+            let r_type = RelocationType(r_type);
+            let rel_info = ElfX86_64::relocation_from_raw(r_type).unwrap();
+            write_value(r_type, rel_info, value, section, 1)
+        };
+        let mut section = [0xaa; 6];
+        for (r_type, value) in [(R_X86_64_32S, -2i64), (R_X86_64_PLT32, 0x1234)] {
+            write(r_type, value as u64, &mut section).unwrap();
+            assert_eq!(section[1..5], value.to_le_bytes()[..4]);
+            assert_eq!((section[0], section[5]), (0xaa, 0xaa));
+        }
+        let far = write(R_X86_64_32S, 1 << 31, &mut section).unwrap_err();
+        let expected = [
+            "the value lies outside the field's range",
+            "Failed to write R_X86_64_32S at 0x1",
+        ];
+        assert_eq!(far.0, expected);
     }
 
     #[test]
@@ -526,6 +576,17 @@ mod linker_utils {
             pub(crate) bias: Option<Bias>,
             pub(crate) thunkable: bool,
             pub(crate) implicit_addend: bool,
+        }
+
+        impl RelocationKindInfo {
+            pub(crate) fn write_to_buffer(self, value: u64, output: &mut [u8]) -> crate::Result {
+                let RelocationSize::ByteSize(byte_size) = self.size else {
+                    return Ok(());
+                };
+                let byte_size = usize::from(byte_size);
+                output[..byte_size].copy_from_slice(&value.to_le_bytes()[..byte_size]);
+                Ok(())
+            }
         }
     }
 }

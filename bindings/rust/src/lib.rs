@@ -10,6 +10,7 @@
 //! | `ElfX86_64::new_relaxation` | [`new_relaxation`] |
 //! | `RelaxationKind::apply`, `Relaxation::apply` | [`RelaxationKind::apply`], [`Relaxation::apply`] |
 //! | both, one after the other | [`relax`] |
+//! | `RelocationKindInfo::write_to_buffer`, with the value computed | [`fill`] |
 //! | `relocation_from_raw` | [`relocation_from_raw`] |
 //! | `DynamicRelocationKind::x86_64_r_type` | [`DynamicRelocationKind::x86_64_r_type`] |
 //! | `write_plt_entry`, `fill_section_padding` | [`write_plt_entry`], [`fill_section_padding`] |
@@ -61,6 +62,7 @@ compile_error!(
 
 pub mod elf;
 mod elf_x86_64;
+mod fill;
 mod numbered;
 mod output_kind;
 mod pass;
@@ -79,6 +81,9 @@ pub use elf_x86_64::fill_section_padding;
 pub use elf_x86_64::new_relaxation;
 pub use elf_x86_64::relax;
 pub use elf_x86_64::write_plt_entry;
+pub use fill::Field;
+pub use fill::Fill;
+pub use fill::fill;
 pub use output_kind::OutputKind;
 pub use output_kind::RelocationModel;
 pub use pass::Pass;

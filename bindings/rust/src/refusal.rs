@@ -60,6 +60,8 @@ refusals! {
     UnknownType = 7, "the relocation type isn't among the 39 that are known";
     PltEntrySize = 8, "the buffer for a PLT entry isn't 16 bytes long";
     PltOutOfReach = 9, "the GOT entry is out of reach of the PLT entry";
+    ValueOutOfRange = 15, "the value lies outside the field's range";
+    FieldNotInside = 16, "the field's four bytes don't lie wholly in the section";
     PassEnded = 21, "the pass has ended";
     OffsetBelowLast = 22, "the offset lies below the last record's";
     WindowOverlap = 23, "the bytes to rewrite begin before the end of those rewritten last";

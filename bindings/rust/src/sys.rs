@@ -79,6 +79,14 @@ pub struct RelaxedAnswer {
     pub addend: i64,
 }
 
+/// Whether a field was filled. Refusals 1, 2, 7, 16, 15. Where it is neither refused nor filled, the type is another one.
+#[derive(Debug, Default, Clone, Copy, PartialEq, Eq)]
+#[repr(C)]
+pub struct FilledAnswer {
+    pub refusal: u8,
+    pub filled: bool,
+}
+
 /// A pass, held in place: the last record's offset, the end of the last window that wasn't empty, whether
 /// a skip is pending, and whether the pass has ended; of these two 0 means no, and any other word yes.
 #[derive(Debug, Default, Clone, Copy, PartialEq, Eq)]
@@ -139,6 +147,7 @@ layout! {
     }
     MovedAnswer: 24 { refusal: 0, offset: 8, addend: 16 }
     RelaxedAnswer: 32 { choice: 0, offset: 16, addend: 24 }
+    FilledAnswer: 2 { refusal: 0, filled: 1 }
     Pass: 32 { last: 0, window: 8, pending: 16, ended: 24 }
     Tally: 176 { figures: 0 }
     StepAnswer: 40 { skipped: 0, relaxed: 8 }
@@ -212,6 +221,18 @@ unsafe extern "C" {
 
     /// Whether the next relocation is skipped, by a kind's number; false where there is no such kind.
     pub safe fn jitamoro_next_modifier(kind: u8) -> bool;
+
+    /// # Safety
+    /// `section` is valid for reads and writes of `len` bytes.
+    pub fn jitamoro_fill(
+        r_type: u32,
+        section: *mut u8,
+        len: usize,
+        offset: u64,
+        address: u64,
+        value: u64,
+        addend: i64,
+    ) -> FilledAnswer;
 
     pub safe fn jitamoro_pass_fresh() -> Pass;
 
@@ -320,6 +341,15 @@ wrappers! {
         offset: u64,
         addend: i64,
     ) -> MovedAnswer = jitamoro_apply;
+
+    fn fill(
+        r_type: u32,
+        [as_mut_ptr] section: &mut [u8],
+        offset: u64,
+        address: u64,
+        value: u64,
+        addend: i64,
+    ) -> FilledAnswer = jitamoro_fill;
 }
 
 record_wrappers! {

@@ -78,7 +78,7 @@ fn refusals() {
     let mut rows = table("JITAMORO_REFUSALS");
     // No refusal, and the case program's, which the library never answers.
     rows.retain(|row| row.0 != 0 && !(10..=13).contains(&row.0));
-    assert_eq!(rows.len(), 13);
+    assert_eq!(rows.len(), 15);
     let text = |number| {
         let refusal = Refusal::from_number(number)?;
         assert_eq!(refusal.number(), number);

@@ -1,9 +1,10 @@
-//! The safe layer against document 01: its worked records, refusals and numbers, walks of a pass and their tally.
-//! Declarations, numbers and texts against the header; the build script.
+//! The safe layer against document 01: its worked records, refusals and numbers, walks of a pass and their tally, and
+//! fields filled. Declarations, numbers and texts against the header; the build script.
 
 #![forbid(unsafe_code)]
 
 mod build_script;
+mod fill;
 mod header_texts;
 mod header_types;
 mod kinds;
