@@ -11,6 +11,7 @@ use std::panic::AssertUnwindSafe;
 
 pub mod at_random;
 pub mod case_file;
+pub mod fill;
 pub mod pass;
 pub mod relaxation;
 pub mod sequences;

@@ -8,6 +8,8 @@ use crate::pass::EMPTY;
 use crate::relaxing;
 use crate::tally::Run;
 use differential::around;
+use differential::fill;
+use differential::fill::Field;
 use differential::pass;
 use differential::pass::Step;
 use differential::pass::port_step;
@@ -116,6 +118,7 @@ impl Comparison {
                 long.stand_at(offset);
                 self.long_records(&mut long, offset);
                 self.long_rewriting(&mut long, offset);
+                self.long_filling(&mut long, offset);
                 if length == SECTION_LIMIT || offset == u64::MAX {
                     self.compare(long.written(), None, || {
                         format!("a byte far from {offset:#x} in a section of {length}")
@@ -183,6 +186,24 @@ impl Comparison {
                     long.ask(|it| jitamoro::sys::apply(kind, inst_offset, it, offset, i64::MIN));
                 let input = format!("kind {kind}({inst_offset}), offset {offset:#x}");
                 self.compare_long(long, port, rust, &input);
+            }
+        }
+    }
+
+    fn long_filling(&mut self, long: &mut Long, offset: u64) {
+        for r_type in [0, 2, 4, 10, 11, 23, 28] {
+            for value in [0x1234_5678, -1i64 as u64] {
+                let field = Field {
+                    r_type,
+                    offset,
+                    address: 0,
+                    value,
+                    addend: 0,
+                };
+                let (rust, bytes) = long.ask(|section| fill::fill(&field, section));
+                self.tally.filling.count(&field, &rust);
+                let port = long.ask(|section| field.port_fill(section));
+                self.compare_long(long, port, (rust.answer, bytes), &field);
             }
         }
     }

@@ -2,6 +2,7 @@
 //! `differential [SEED [RECORDS]]`, with as many relocation records at random.
 //! A comparison is one input with all of its answer.
 
+mod filling;
 mod long_sections;
 mod pass;
 mod random_records;
@@ -75,7 +76,7 @@ struct Comparison {
 impl Comparison {
     fn run_parts(&mut self) {
         type Part = fn(&mut Comparison);
-        let parts: [(&str, Part); 14] = [
+        let parts: [(&str, Part); 15] = [
             ("lookup", Self::lookup),
             ("contains", Self::contains),
             ("dynamic types", Self::dynamic_types),
@@ -87,6 +88,7 @@ impl Comparison {
             ("choosing", Self::choosing),
             ("rewriting", Self::rewriting),
             ("relaxing", Self::relaxing),
+            ("filling", Self::filling),
             ("long sections", Self::long_sections),
             ("records at random", Self::random_records),
             ("pass", Self::pass),
