@@ -12,11 +12,16 @@
 //   6 fill_section_padding: executable, length lent, 16 bytes of a buffer
 //   7 AllowedRange::contains: type (4), value (8), 0 or 1
 //   8 AllowedRange::from_byte_size: bytes, 0 signed or 1 unsigned, min (8), max (8)
+//   9 RelocationKindInfo::write_to_buffer: type (4), value (8), length lent, 0 or 15 (range) or 16 (no room), 16 bytes of a
+//     buffer. The Rust tests the range first. The port has its parts: the row, `contains` and `write_low_first`
+//  10 fill: type, length lent, offset, address (8), value (8), addend (8), 0 (none), 255 (filled) or the refusal, ten bytes
+//     of a buffer
 // Numbers stand low byte first; buffers hold A5 before.
 use elf::AllowedRange;
 use elf::ByteWidth;
 use elf::DynamicRelocationKind;
 use elf::Sign;
+use elf_fill::Filled;
 use elf_x86_64_plt::PltEntry;
 use hex_lines::byte;
 use hex_lines::more;
@@ -26,6 +31,7 @@ use hex_lines::u64_at;
 use libc::STDIN_FILENO;
 use output_kind::OutputKind;
 use output_kind::OutputKindFound;
+use rules::Field;
 use value_flags::ValueFlags;
 use value_flags::ValueFlagsFound;
 use x86_64_types::RelocationFound;
@@ -113,6 +119,13 @@ fn buffer_agrees(line: &[u8], at: usize, buffer: [u8; 64]) -> bool {
     check::same(&expected, &buffer[..16])
 }
 
+// The same of its first ten.
+fn ten_agree(line: &[u8], at: usize, buffer: [u8; 64]) -> bool {
+    let mut expected = [0u8; 10];
+    hex_lines::bytes_at(line, at, &mut expected);
+    check::same(&expected, &buffer[..10])
+}
+
 fn plt_agrees(line: &[u8]) -> bool {
     let mut buffer = [0xa5u8; 64];
     let n = byte(line, 1) as usize;
@@ -166,6 +179,66 @@ fn byte_size_agrees(line: &[u8]) -> bool {
     range_agrees(range, i64_at(line, 3), i64_at(line, 11))
 }
 
+// What the Rust says of a value and a buffer.
+fn told(room: bool, inside: bool) -> u8 {
+    if inside {
+        if room { 0 } else { 16 }
+    } else {
+        15
+    }
+}
+
+fn write_agrees(line: &[u8]) -> bool {
+    match x86_64_types::relocation_from_raw(u32_at(line, 1)) {
+        RelocationFound::Is(info) => {
+            let range = info.range;
+            let size = info.size.byte_size as usize;
+            if 16 < size {
+                return false;
+            }
+            let answer = told(
+                size <= byte(line, 13) as usize,
+                range.contains(i64_at(line, 5)),
+            );
+            let mut buffer = [0xa5u8; 64];
+            if answer == 0 {
+                elf::write_low_first(u64_at(line, 5), &mut buffer[..size]);
+            }
+            (answer == byte(line, 14)) & buffer_agrees(line, 15, buffer)
+        }
+        RelocationFound::Refused(_) => false,
+    }
+}
+
+fn field_of(line: &[u8]) -> Field {
+    Field {
+        r_type: byte(line, 1) as u32,
+        offset: byte(line, 3) as u64,
+        address: u64_at(line, 4),
+        value: u64_at(line, 12),
+        addend: i64_at(line, 20),
+    }
+}
+
+// 0 where nothing was filled, 255 where the field was, or the refusal.
+fn answer_of(filled: Filled) -> u8 {
+    match filled {
+        Filled::Nothing => 0,
+        Filled::Done => 255,
+        Filled::Refused(number) => number,
+    }
+}
+
+fn fill_agrees(line: &[u8]) -> bool {
+    let mut buffer = [0xa5u8; 64];
+    let n = byte(line, 2) as usize;
+    if 64 < n {
+        return false;
+    }
+    let answer = answer_of(elf_fill::fill(&mut buffer[..n], field_of(line)));
+    (answer == byte(line, 28)) & ten_agree(line, 29, buffer)
+}
+
 // How many records of each function agree, and how many of any function don't.
 struct Tally {
     output_kind: u64,
@@ -176,6 +249,8 @@ struct Tally {
     padding: u64,
     contains: u64,
     byte_size: u64,
+    written: u64,
+    filled: u64,
     differ: u64,
 }
 
@@ -191,6 +266,8 @@ fn tallied(mut t: Tally, line: &[u8]) -> Tally {
         6 => padding_agrees(line),
         7 => contains_agrees(line),
         8 => byte_size_agrees(line),
+        9 => write_agrees(line),
+        10 => fill_agrees(line),
         _ => false,
     };
     t.output_kind = more(t.output_kind, agrees & (tag == 1));
@@ -201,6 +278,8 @@ fn tallied(mut t: Tally, line: &[u8]) -> Tally {
     t.padding = more(t.padding, agrees & (tag == 6));
     t.contains = more(t.contains, agrees & (tag == 7));
     t.byte_size = more(t.byte_size, agrees & (tag == 8));
+    t.written = more(t.written, agrees & (tag == 9));
+    t.filled = more(t.filled, agrees & (tag == 10));
     t.differ = more(t.differ, !agrees);
     t
 }
@@ -214,6 +293,8 @@ fn print_tally(t: Tally) {
     print_count(b"paddings", t.padding);
     print_count(b"ranges", t.contains);
     print_count(b"ranges of fields", t.byte_size);
+    print_count(b"values written", t.written);
+    print_count(b"fields filled", t.filled);
     print_count(b"differ", t.differ);
 }
 
@@ -227,6 +308,8 @@ fn main() {
         padding: 0,
         contains: 0,
         byte_size: 0,
+        written: 0,
+        filled: 0,
         differ: 0,
     };
     let mut turns = 0u64;

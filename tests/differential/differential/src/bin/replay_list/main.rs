@@ -10,6 +10,9 @@ use differential::KNOWN_TYPES;
 use differential::Random;
 use differential::around;
 use differential::byte_size;
+use differential::fill;
+use differential::fill::Field;
+use differential::fill::Unwritten;
 use differential::kind_number;
 use libwild::oracle;
 use libwild::oracle::AllowedRange;
@@ -49,6 +52,8 @@ fn below() {
         .into_iter()
         .for_each(|r_type| contains(r_type, &mut random));
     [1, 2, 4, 8].into_iter().for_each(byte_sizes);
+    KNOWN_TYPES.into_iter().for_each(writes);
+    fills();
 }
 
 fn record(fields: &[&[u8]]) {
@@ -199,4 +204,95 @@ fn contains(r_type: u32, random: &mut Random) {
             ]);
         }
     }
+}
+
+/// Wild's `write_to_buffer` of a type's row: the edges of its range, in buffers about its size.
+fn writes(r_type: u32) {
+    let info = oracle::relocation_from_raw(r_type).unwrap();
+    let size = byte_size(info.size);
+    let edges =
+        [info.range.min, info.range.max].map(|edge| around(edge.wrapping_sub(1), 1).take(2));
+    let values = edges.into_iter().flatten();
+    for value in values.chain([-1, 0x0123_4567_89ab_cdef]) {
+        // Left out: i64::MAX in an unchecked range.
+        if info.range == AllowedRange::no_check() && value == i64::MAX {
+            continue;
+        }
+        for length in [size.saturating_sub(1), size, 9] {
+            write(r_type, value, length);
+        }
+    }
+}
+
+fn write(r_type: u32, value: i64, length: u8) {
+    let info = oracle::relocation_from_raw(r_type).unwrap();
+    let mut buffer = [BEFORE; 16];
+    let lent = &mut buffer[..usize::from(length)];
+    let answer = match fill::write_to_buffer(info, value as u64, lent) {
+        Ok(()) => 0,
+        Err(Unwritten::Range) => 15,
+        Err(Unwritten::Bounds) => 16,
+    };
+    let asked = r_type.to_le_bytes();
+    record(&[
+        &[9],
+        &asked,
+        &value.to_le_bytes(),
+        &[length, answer],
+        &buffer,
+    ]);
+}
+
+/// Fields of every sort of type at the edges of the ranges and of the section, with sums that wrap.
+fn fills() {
+    let places = [
+        (0, 0),
+        (3, 0),
+        (4, 0),
+        (4, 1),
+        (9, 5),
+        (9, 6),
+        (10, 3),
+        (9, 10),
+    ];
+    let values = [
+        0,
+        0x1234_5678,
+        (1 << 31) - 1,
+        -1 << 31,
+        u32::MAX.into(),
+        1 << 32,
+        -1,
+    ];
+    for (length, offset) in places {
+        for r_type in [0, 2, 4, 10, 11, 23, 28] {
+            for value in values {
+                fill_of(r_type, length, offset, (0x40_1000, value, 0));
+                fill_of(r_type, length, offset, (u64::MAX - 2, value, i64::MIN));
+            }
+        }
+    }
+}
+
+/// A field whose sum is `sum`, with an addend and a place of its own.
+fn fill_of(r_type: u32, length: u8, offset: u8, (address, sum, addend): (u64, i64, i64)) {
+    let place = if r_type == 2 { address } else { 0 };
+    let value = (sum as u64).wrapping_sub(addend as u64).wrapping_add(place);
+    let field = Field {
+        r_type,
+        offset: offset.into(),
+        address,
+        value,
+        addend,
+    };
+    let mut buffer = [BEFORE; 10];
+    let answer = fill::fill(&field, &mut buffer[..usize::from(length)]).answer;
+    record(&[
+        &[10, r_type as u8, length, offset],
+        &address.to_le_bytes(),
+        &value.to_le_bytes(),
+        &addend.to_le_bytes(),
+        &[if answer.filled { 255 } else { answer.refusal }],
+        &buffer,
+    ]);
 }
