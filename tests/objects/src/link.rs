@@ -3,7 +3,8 @@
 //!
 //! Addresses: the sections that are loaded lie one after the other at their alignments, from
 //! 0x400000 in a fixed output and from 0 in another, and the common symbols after them; other
-//! sections are at 0. A symbol's address is its section's plus its value.
+//! sections are at 0. A symbol's address is its section's plus its value. For offsets from the thread pointer, that is taken
+//! to be the end of all that is loaded.
 //!
 //! Which definition: a local symbol stands for itself, any other for the definition of its name in
 //! all objects: the first strong one, else the first common one, else the first weak one. Symbols
@@ -50,6 +51,9 @@ const PARTIAL: u8 = 5;
 pub struct Linked<'a> {
     pub object: &'a Object,
     pub section: &'a Section,
+    /// The section's.
+    pub address: u64,
+    pub thread_pointer: u64,
     pub records: Vec<Record>,
 }
 
@@ -67,7 +71,8 @@ pub fn link(objects: &[Object], output_kind: u8) -> Vec<Linked<'_>> {
     let mut linked = Vec::new();
     for (number, object) in objects.iter().enumerate() {
         let relocated = |section: &&Section| !section.relocations.is_empty();
-        for section in object.sections.iter().filter(relocated) {
+        let sections = object.sections.iter().zip(&link.sections[number]);
+        for (section, &address) in sections.filter(|it| relocated(&it.0)) {
             let relocations = section.relocations.iter();
             let record = |relocation| link.record(number, section, relocation);
             let mut records: Vec<Record> = relocations.map(record).collect();
@@ -75,6 +80,8 @@ pub fn link(objects: &[Object], output_kind: u8) -> Vec<Linked<'_>> {
             linked.push(Linked {
                 object,
                 section,
+                address,
+                thread_pointer: link.end,
                 records,
             });
         }
@@ -92,6 +99,8 @@ struct Link<'a> {
     /// The address of each object's sections.
     sections: Vec<Vec<u64>>,
     commons: HashMap<SymbolNumber, u64>,
+    /// Where all that is loaded ends.
+    end: u64,
 }
 
 impl<'a> Link<'a> {
@@ -102,6 +111,7 @@ impl<'a> Link<'a> {
             definitions: definitions(objects),
             sections: Vec::new(),
             commons: HashMap::new(),
+            end: 0,
         };
         link.lay_out();
         link
@@ -131,6 +141,7 @@ impl<'a> Link<'a> {
             let address = next.take(symbol.size, symbol.value.max(1));
             self.commons.insert(number, address);
         }
+        self.end = next.0;
     }
 
     fn symbol(&self, (object, symbol): SymbolNumber) -> &'a Symbol {

@@ -1,7 +1,22 @@
-//! Fills the fields of a section as the psABI says.
+//! Fills the fields of a section: those of types 2, 10, 11 and 23 by the port's own `fill`, the others as the psABI says.
 
 use crate::case::Case;
 use crate::case::Record;
+use jitamoro::sys;
+use std::cell::Cell;
+
+/// The types that the port fills.
+pub const FILLED_TYPES: [u32; 4] = [2, 10, 11, 23];
+
+thread_local! {
+    /// How many fields of each type the port filled.
+    static FILLED: Cell<[usize; 4]> = const { Cell::new([0; 4]) };
+}
+
+/// How many fields of each of `FILLED_TYPES` the port has filled.
+pub fn counts() -> [usize; 4] {
+    FILLED.get()
+}
 
 /// A relocation that is left to fill.
 pub struct Left<'a> {
@@ -30,17 +45,24 @@ impl<'a> Left<'a> {
         }
     }
 
-    /// What the addend is added to; None where the peer has no such entry.
+    /// The port's answer for a field of a type that it fills; None where the peer has no value.
+    fn by_port(&self, section: &mut [u8], case: &Case) -> Option<sys::FilledAnswer> {
+        let address = case.place.wrapping_add(self.offset);
+        let value = match self.r_type {
+            23 => self.record.tp? as u64,
+            _ => self.record.address,
+        };
+        let (r_type, offset, addend) = (self.r_type, self.offset, self.addend);
+        let answer = sys::fill(r_type, section, offset, address, value, addend);
+        Some(answer)
+    }
+
+    /// What the addend is added to, in a field that the port doesn't fill; None where the peer has no such entry.
     fn base(&self, case: &Case) -> Option<u64> {
         let place = case.place.wrapping_add(self.offset);
-        let Record {
-            address, slot, tp, ..
-        } = *self.record;
+        let Record { address, slot, .. } = *self.record;
         match self.r_type {
-            2 => Some(address.wrapping_sub(place)),
             4 => Some(slot.unwrap_or(address).wrapping_sub(place)),
-            10 | 11 => Some(address),
-            23 => tp.map(|tp| tp as u64),
             25 => case.got.map(|got| address.wrapping_sub(got)),
             31 => case
                 .got
@@ -49,19 +71,33 @@ impl<'a> Left<'a> {
         }
     }
 
-    fn value(&self, case: &Case) -> Option<u64> {
-        Some(self.base(case)?.wrapping_add(self.addend as u64))
+    /// Writes the field; whether its value is known.
+    fn fill(&self, section: &mut [u8], case: &Case) -> bool {
+        if let Some(place) = FILLED_TYPES.iter().position(|it| *it == self.r_type) {
+            let filled = self.by_port(section, case).is_some_and(|it| it.filled);
+            let mut counts = FILLED.get();
+            counts[place] += usize::from(filled);
+            FILLED.set(counts);
+            return filled;
+        }
+        let Some(base) = self.base(case) else {
+            return false;
+        };
+        let value = base.wrapping_add(self.addend as u64).to_le_bytes();
+        section[self.range()].copy_from_slice(&value[..self.width()]);
+        true
     }
 
     /// Whether the value is known and the field can't hold it.
-    pub fn overflows(&self, case: &Case) -> bool {
-        let Some(value) = self.value(case) else {
-            return false;
-        };
-        match self.r_type {
-            10 => u32::try_from(value).is_err(),
-            _ => self.width() == 4 && i32::try_from(value as i64).is_err(),
+    pub fn overflows(&self, section: &[u8], case: &Case) -> bool {
+        if FILLED_TYPES.contains(&self.r_type) {
+            let answer = self.by_port(&mut section.to_owned(), case);
+            return answer.is_some_and(|it| it.refusal == 15);
         }
+        let value = self
+            .base(case)
+            .map(|it| it.wrapping_add(self.addend as u64));
+        self.width() == 4 && value.is_some_and(|it| i32::try_from(it as i64).is_err())
     }
 
     fn range(&self) -> std::ops::Range<usize> {
@@ -73,11 +109,9 @@ impl<'a> Left<'a> {
 /// The section with its fields filled, or None where a value isn't known.
 pub fn filled(section: &[u8], left: &[Left], case: &Case) -> Option<Vec<u8>> {
     let mut section = section.to_owned();
-    for one in left.iter().filter(|one| one.width() > 0) {
-        let value = one.value(case)?.to_le_bytes();
-        section[one.range()].copy_from_slice(&value[..one.width()]);
-    }
-    Some(section)
+    let mut left = left.iter().filter(|one| one.width() > 0);
+    left.all(|one| one.fill(&mut section, case))
+        .then_some(section)
 }
 
 /// The section with its fields zero.

@@ -56,11 +56,17 @@ fn compare(text: &str, table: bool) -> ExitCode {
     } else {
         counts.print()
     }
+    let filled = fill::counts();
+    let types = fill::FILLED_TYPES.iter().zip(filled);
+    let types: Vec<_> = types
+        .map(|(it, count)| format!("{count} of type {it}"))
+        .collect();
     println!(
-        "peers: {cases} cases, {} verdicts as recorded, {differ} differ",
-        cases - differ
+        "peers: {cases} cases, {} verdicts as recorded, {differ} differ; fields filled by the port: {}",
+        cases - differ,
+        types.join(", ")
     );
-    if differ == 0 && cases > 0 {
+    if differ == 0 && cases > 0 && !filled.contains(&0) {
         ExitCode::SUCCESS
     } else {
         ExitCode::FAILURE

@@ -27,7 +27,11 @@ pub fn verdict(case: &Case) -> &'static str {
     let Ok(port) = relax(case) else {
         return "port-refuses";
     };
-    if port.left.iter().any(|left| left.overflows(case)) {
+    if port
+        .left
+        .iter()
+        .any(|left| left.overflows(&port.section, case))
+    {
         return "port-overflows";
     }
     if filled(&port.section, &port.left, case).as_deref() == Some(after) {

@@ -1,4 +1,4 @@
-//! The records as they would be linked: each alone, and in a pass over its section.
+//! The records as they would be linked: each alone, and in a pass over its section, with their fields filled.
 
 use crate::comparison::Comparison;
 use crate::comparison::Hex;
@@ -6,9 +6,13 @@ use crate::comparison::describe;
 use crate::comparison::near;
 use crate::comparison::place;
 use differential::ask_port;
+use differential::fill;
+use differential::fill::Field;
 use differential::pass;
 use differential::relaxation;
+use differential::relaxation::Record;
 use jitamoro::sys::Pass;
+use jitamoro::sys::RelaxedAnswer;
 use jitamoro::sys::Tally;
 use objects::Linked;
 use objects::Object;
@@ -25,6 +29,30 @@ impl Walk {
         let bytes = linked.section.bytes.clone();
         Self { pass, bytes }
     }
+}
+
+/// The field that is left to fill after relaxing gave an answer; none after a refusal.
+fn field(linked: &Linked, record: &Record, answer: &RelaxedAnswer) -> Option<Field> {
+    let choice = &answer.choice;
+    if choice.refusal != 0 {
+        return None;
+    }
+    let (r_type, offset, addend) = match choice.chosen {
+        true => (choice.new_type, answer.offset, answer.addend),
+        false => (record.r_type, record.offset, record.addend),
+    };
+    let base = if r_type == 23 {
+        linked.thread_pointer
+    } else {
+        0
+    };
+    Some(Field {
+        r_type,
+        offset,
+        address: linked.address.wrapping_add(offset),
+        value: record.address.wrapping_sub(base),
+        addend,
+    })
 }
 
 impl Comparison {
@@ -44,24 +72,38 @@ impl Comparison {
             let port_answer = ask_port!(relax, record, &mut port);
             let rust_answer = relaxation::relax(record, &mut rust);
             let near = near(record.offset, before.len());
+            self.compare(
+                (port_answer, Hex(&port[near.clone()])),
+                (rust_answer, Hex(&rust[near.clone()])),
+                || describe("relaxing", linked.object, linked.section, record),
+            );
+            if let Some(field) = field(linked, record, &rust_answer) {
+                let port_filled = field.port_fill(&mut port);
+                let rust_filled = fill::fill(&field, &mut rust).answer;
+                self.compare(
+                    (port_filled, Hex(&port[near.clone()])),
+                    (rust_filled, Hex(&rust[near.clone()])),
+                    || describe("filling", linked.object, linked.section, record),
+                );
+                self.tally.count_field(record, &field, &rust_filled);
+            }
             let (port, rust) = (&mut port[near.clone()], &mut rust[near.clone()]);
-            self.compare((port_answer, Hex(port)), (rust_answer, Hex(rust)), || {
-                describe("relaxing", linked.object, linked.section, record)
-            });
             port.copy_from_slice(&before[near.clone()]);
             rust.copy_from_slice(&before[near]);
         }
-        self.compare_bytes("relaxing", linked, [&port], before);
+        self.compare_bytes("relaxing and filling", linked, [&port], before);
         assert!(rust == *before, "wild writes near the record alone");
     }
 
-    /// Three passes: the port's with a tally and without one, and the Rust's with one.
+    /// Three passes: the port's with a tally and without one, and the Rust's with one. Then the fields that they leave are
+    /// filled, each by its own.
     fn pass(&mut self, linked: &Linked) {
         let mut port = Walk::new(linked, jitamoro::sys::jitamoro_pass_fresh());
         let mut plain = port.clone();
         let mut rust = Walk::new(linked, Pass::default());
         let mut port_tally = jitamoro::sys::jitamoro_tally_fresh();
         let mut rust_tally = Tally::default();
+        let mut fields = Vec::new();
         for record in &linked.records {
             let Walk { pass, bytes } = &mut port;
             let port_answer = ask_port!(tally_step, record, bytes, pass, &mut port_tally);
@@ -77,6 +119,9 @@ impl Comparison {
                 || describe("pass", linked.object, linked.section, record),
             );
             self.tally.count_step(record, &rust_answer);
+            if !rust_answer.skipped {
+                fields.extend(field(linked, record, &rust_answer.relaxed));
+            }
         }
         self.compare_bytes("pass", linked, [&port.bytes, &plain.bytes], &rust.bytes);
         let port_end = jitamoro::sys::jitamoro_pass_end(&mut port.pass);
@@ -93,6 +138,15 @@ impl Comparison {
         );
         let output_kind = linked.records[0].output_kind;
         self.tally.count_end(output_kind, rust_end);
+        for field in &fields {
+            let port_filled = field.port_fill(&mut port.bytes);
+            let rust_filled = fill::fill(field, &mut rust.bytes).answer;
+            self.compare(port_filled, rust_filled, || {
+                let place = place(linked.object, linked.section, field.offset);
+                format!("filling after a pass, {place}, {field:?}")
+            });
+        }
+        self.compare_bytes("filling", linked, [&port.bytes], &rust.bytes);
     }
 
     /// Whole sections, one or two of the port; the first byte that differs is shown.

@@ -1,7 +1,9 @@
-//! How often each type met each outcome in a pass, for each output kind.
+//! How often each type met each outcome in a pass, and each type of a field when it was filled, for each output kind.
 
+use differential::fill::Field;
 use differential::relaxation::KIND_NAMES;
 use differential::relaxation::Record;
+use jitamoro::sys::FilledAnswer;
 use jitamoro::sys::StepAnswer;
 use std::collections::BTreeMap;
 
@@ -64,6 +66,7 @@ const TYPE_NAMES: [&str; 52] = [
 #[derive(Clone, Copy, PartialEq, Eq, PartialOrd, Ord)]
 enum Outcome {
     Relaxed(u8),
+    Filled,
     None,
     Skipped,
     Refused(u8),
@@ -75,6 +78,8 @@ type Counts = [u64; 6];
 #[derive(Default)]
 pub struct Tally {
     steps: BTreeMap<(u32, Outcome), Counts>,
+    /// Of records relaxed alone.
+    fields: BTreeMap<(u32, Outcome), Counts>,
     /// By refusal, 0 where the end was granted.
     ends: BTreeMap<u8, Counts>,
 }
@@ -92,6 +97,16 @@ impl Tally {
         counts[usize::from(record.output_kind)] += 1;
     }
 
+    pub fn count_field(&mut self, record: &Record, field: &Field, answer: &FilledAnswer) {
+        let outcome = match (answer.refusal, answer.filled) {
+            (0, true) => Outcome::Filled,
+            (0, false) => Outcome::None,
+            (refusal, _) => Outcome::Refused(refusal),
+        };
+        let counts = self.fields.entry((field.r_type, outcome)).or_default();
+        counts[usize::from(record.output_kind)] += 1;
+    }
+
     pub fn count_end(&mut self, output_kind: u8, refusal: u8) {
         self.ends.entry(refusal).or_default()[usize::from(output_kind)] += 1;
     }
@@ -99,6 +114,9 @@ impl Tally {
     pub fn add(&mut self, other: Self) {
         for (step, counts) in other.steps {
             add_counts(self.steps.entry(step).or_default(), &counts);
+        }
+        for (field, counts) in other.fields {
+            add_counts(self.fields.entry(field).or_default(), &counts);
         }
         for (refusal, counts) in other.ends {
             add_counts(self.ends.entry(refusal).or_default(), &counts);
@@ -131,6 +149,14 @@ impl Tally {
             print_row(&outcome_name(outcome), &counts);
         }
         print_row("records", &all);
+        print_head("Field's type | R_X86_64_ | Filling");
+        for (&(r_type, outcome), counts) in &self.fields {
+            let name = type_name(r_type);
+            print_row(
+                &format!("{r_type} | {name} | {}", outcome_name(outcome)),
+                counts,
+            );
+        }
         print_head("End of a section's pass");
         for (&refusal, counts) in &self.ends {
             let name = if refusal == 0 {
@@ -160,6 +186,7 @@ fn type_name(r_type: u32) -> &'static str {
 fn outcome_name(outcome: Outcome) -> String {
     match outcome {
         Outcome::Relaxed(kind) => KIND_NAMES[usize::from(kind)].to_string(),
+        Outcome::Filled => "filled".to_string(),
         Outcome::None => "none".to_string(),
         Outcome::Skipped => "skipped".to_string(),
         Outcome::Refused(refusal) => format!("refused {refusal}"),
