@@ -27,15 +27,26 @@ struct record {
 };
 
 /* pass_end is lent no section, but answers as the others do. */
-enum function { RELAX, NEW_RELAXATION, APPLY, PASS_STEP, TALLY_STEP, PASS_END, WRITE_PLT_ENTRY, FILL_SECTION_PADDING };
+enum function {
+    RELAX,
+    NEW_RELAXATION,
+    APPLY,
+    PASS_STEP,
+    TALLY_STEP,
+    PASS_END,
+    FILL,
+    WRITE_PLT_ENTRY,
+    FILL_SECTION_PADDING
+};
 
-static const char *const names[] = {"relax",      "new_relaxation", "apply",           "pass_step",
-                                    "tally_step", "pass_end",       "write_plt_entry", "fill_section_padding"};
+static const char *const names[] = {"relax",    "new_relaxation", "apply",           "pass_step",           "tally_step",
+                                    "pass_end", "fill",           "write_plt_entry", "fill_section_padding"};
 
-/* A call; each function uses some of the fields. */
+/* A call; each function uses some of the fields. Filling is given type, offset and addend of the record. */
 struct call {
     enum function function;
     struct record record;
+    uint64_t place, value;
     uint8_t kind, inst_offset;
     struct jitamoro_pass pass;
     struct jitamoro_tally tally;
@@ -76,6 +87,9 @@ enum {
     SKIPPED
 };
 
+/* Fields that are filled though a sum wraps on the way; those of other types; and 16 where 15 would hold too. */
+enum { WRAPPED_SUM, WRAPPED_PLACE, UNFILLED, CUT_AND_FAR, FILLINGS };
+
 /* Figures that wrap: of records, and of bytes. */
 enum { WRAPPED_COUNT, WRAPPED_BYTES, WRAPS };
 
@@ -90,6 +104,7 @@ static struct {
     const struct lent *lent;
     uint64_t number; /* what such a function was given */
     uint64_t relaxed[KINDS], rewritten[KINDS], refused[256];
+    uint64_t filled[256], filling[FILLINGS];                /* by type; and what else is to be seen */
     uint64_t raised[JITAMORO_TALLY_LENGTH], wrapped[WRAPS]; /* figures */
     uint64_t pending[PENDINGS], empty_refused[256];         /* while a skip is pending */
 } run;
@@ -113,6 +128,9 @@ static void print_call(const struct call *c, const struct lent *l, bool ended) {
     printf("  kind %d instruction offset %d; pass %" PRIu64 " %" PRIu64 " %" PRIu64 " %" PRIu64 "; GOT %#" PRIx64
            " PLT %#" PRIx64 "\n",
            c->kind, c->inst_offset, p->last, p->window, p->pending, p->ended, c->got_address, c->plt_address);
+    if (c->function == FILL) {
+        printf("  the field's address %#" PRIx64 ", value %#" PRIx64 "\n", c->place, c->value);
+    }
     if (c->function == TALLY_STEP) {
         printf("  tally:");
         for (size_t i = 0; i < JITAMORO_TALLY_LENGTH; i++) {
@@ -460,6 +478,10 @@ static struct answer of_moved(struct jitamoro_moved m) {
     return (struct answer){3, {m.refusal, m.offset, (uint64_t)m.addend}};
 }
 
+static struct answer of_filled(struct jitamoro_filled f) {
+    return (struct answer){2, {f.refusal, f.filled}};
+}
+
 static struct answer of_end(uint8_t refusal) {
     struct answer a = {1, {refusal}};
     add_pass(&a, lent_pass);
@@ -489,6 +511,8 @@ static struct answer perform(const struct call *c, const struct lent *l) {
     case PASS_STEP: return of_step(jitamoro_pass_step(lent_pass, RECORD(r, l->write, l->len)));
     case TALLY_STEP: return of_tally_step(jitamoro_tally_step(lent_pass, lent_tally, RECORD(r, l->write, l->len)));
     case PASS_END: return of_end(jitamoro_pass_end(lent_pass));
+    case FILL:
+        return of_filled(jitamoro_fill(r->r_type, l->write, l->len, r->offset, c->place, c->value, r->addend));
     case WRITE_PLT_ENTRY:
         return (struct answer){1, {jitamoro_write_plt_entry(l->write, l->len, c->got_address, c->plt_address)}};
     case FILL_SECTION_PADDING: jitamoro_fill_section_padding(l->write, l->len, r->executable); break;
@@ -667,6 +691,106 @@ static void check_relaxing(struct lent *l, const struct record *r, struct tried 
           "relaxing leaves other bytes than rewriting, or than there were");
 }
 
+/* ---- Filling a field */
+
+static bool is_filled(uint32_t r_type) {
+    return r_type == JITAMORO_R_X86_64_PC32 || r_type == JITAMORO_R_X86_64_32 || r_type == JITAMORO_R_X86_64_32S ||
+           r_type == JITAMORO_R_X86_64_TPOFF32;
+}
+
+/* What the field is to hold. */
+static uint64_t sum_of(const struct call *c) {
+    uint64_t sum = c->value + (uint64_t)c->record.addend;
+    return c->record.r_type == JITAMORO_R_X86_64_PC32 ? sum - c->place : sum;
+}
+
+/* Whether a sum lies in the range of one of the four types. */
+static bool fits(uint32_t r_type, uint64_t sum) {
+    return r_type == JITAMORO_R_X86_64_32 ? sum < 1ull << 32 : sum + (1ull << 31) < 1ull << 32;
+}
+
+/* Refusals 1, 2, 7, 16, 15, or 0. */
+static unsigned refusal_of_filling(const struct call *c, size_t len) {
+    struct record only_offset = {.offset = c->record.offset};
+    unsigned refusal = refusal_of_record(&only_offset, len);
+    if (refusal != 0) {
+        return refusal;
+    }
+    if (row_of(c->record.r_type) == NULL) {
+        return 7;
+    }
+    if (!is_filled(c->record.r_type)) {
+        return 0;
+    }
+    return len - c->record.offset < 4 ? 16 : fits(c->record.r_type, sum_of(c)) ? 0 : 15;
+}
+
+static void count_filling(const struct call *c, unsigned refusal) {
+    uint64_t sum = c->value + (uint64_t)c->record.addend;
+    if (refusal == 16) {
+        run.filling[CUT_AND_FAR] += !fits(c->record.r_type, sum_of(c));
+    } else if (refusal == 0 && is_filled(c->record.r_type)) {
+        run.filled[c->record.r_type]++;
+        run.filling[WRAPPED_SUM] += sum < c->value;
+        run.filling[WRAPPED_PLACE] += c->record.r_type == JITAMORO_R_X86_64_PC32 && sum < c->place;
+    } else {
+        run.filling[UNFILLED] += refusal == 0;
+    }
+}
+
+/* Fills the field of a record, on the bytes of l->before. */
+static void check_filling(struct lent *l, const struct record *r, uint64_t place, uint64_t value) {
+    static uint8_t expected_bytes[MAX_WATCHED];
+    struct call c = {.function = FILL, .record = *r, .place = place, .value = value};
+    struct answer a = call(&c, l);
+    unsigned refusal = refusal_of_filling(&c, l->len);
+    bool filled = refusal == 0 && is_filled(r->r_type);
+    struct answer expected = {2, {refusal, filled}};
+    check(same(&a, &expected), "filling: wrong refusal, or filled where it shouldn't be");
+    memcpy(expected_bytes, l->before, l->watched_len);
+    for (uint64_t i = 0; i < 4 && filled; i++) {
+        uint64_t at = r->offset + i - (uint64_t)l->first;
+        if (at < l->watched_len) {
+            expected_bytes[at] = (uint8_t)(sum_of(&c) >> 8 * i);
+        }
+    }
+    check(memcmp(l->after, expected_bytes, l->watched_len) == 0, "filling: wrong bytes, or others than the field's");
+    count_filling(&c, refusal);
+}
+
+/* Mostly one of the types that are filled, and a sum at the ends of the ranges. */
+static void check_any_filling(struct lent *l, const struct record *record) {
+    static const uint8_t types[] = {JITAMORO_R_X86_64_PC32, JITAMORO_R_X86_64_32, JITAMORO_R_X86_64_32S,
+                                    JITAMORO_R_X86_64_TPOFF32};
+    struct record r = *record;
+    if (!one_in(4)) {
+        r.r_type = types[below(COUNT(types))];
+    }
+    r.addend = (int64_t)any_number();
+    uint64_t place = any_number(), value = any_number();
+    if (!one_in(4)) {
+        value -= (uint64_t)r.addend;
+        value += r.r_type == JITAMORO_R_X86_64_PC32 ? place : 0;
+    }
+    check_filling(l, &r, place, value);
+}
+
+/* What relaxing left is filled, on the bytes that it left. */
+static void check_filling_relaxed(struct lent *l, const struct record *record, const struct tried *t) {
+    static uint8_t before[MAX_WATCHED];
+    struct record r = *record;
+    if (t->relaxed.field[CHOSEN] == 0) {
+        return;
+    }
+    r.r_type = (uint32_t)t->relaxed.field[NEW_TYPE];
+    r.offset = t->relaxed.field[NEW_OFFSET];
+    r.addend = (int64_t)t->relaxed.field[NEW_ADDEND];
+    memcpy(before, l->before, l->watched_len);
+    memcpy(l->before, t->bytes, l->watched_len);
+    check_filling(l, &r, 0x401000 + r.offset, r.address);
+    memcpy(l->before, before, l->watched_len);
+}
+
 /* ---- A pass and its tally */
 
 /* A walk between two steps; the empty records taken since a skip is pending, and the last offset before them. */
@@ -807,6 +931,8 @@ static struct walked check_record(struct lent *l, const struct record *r, struct
     static struct tried t;
     check_relaxing(l, r, &t);
     check_rewriting(l, r, any_byte(KINDS, 4), any_byte(8, 3));
+    check_any_filling(l, r);
+    check_filling_relaxed(l, r, &t);
     struct walked any = {.pass = any_pass(r), .tally = any_tally()};
     check_end(l, any);
     check_end(l, check_step(l, r, any, &t));
@@ -1048,9 +1174,11 @@ static size_t seen(const char *what, const uint64_t *tally, const uint8_t *numbe
 }
 
 static int summary(double seconds) {
-    static const uint8_t refusals[] = {1, 2, 3, 4, 5, 6, 7, 8, 9, 21, 22, 23, 24};
+    static const uint8_t refusals[] = {1, 2, 3, 4, 5, 6, 7, 8, 9, 15, 16, 21, 22, 23, 24};
     static const uint8_t kinds[] = {4, 0, 1, 2, 3, 5, 6, 7, 8, 9, 10, 11, 12, 13, 14, 15, 16, 17, 18};
     static const uint8_t figures[] = {JITAMORO_TALLY_NONE, JITAMORO_TALLY_SKIPPED, JITAMORO_TALLY_BYTES};
+    static const uint8_t types[] = {2, 10, 11, 23};
+    static const uint8_t fillings[] = {WRAPPED_SUM, WRAPPED_PLACE, UNFILLED, CUT_AND_FAR};
     static const uint8_t wraps[] = {WRAPPED_COUNT, WRAPPED_BYTES};
     static const uint8_t pendings[] = {EMPTY_TAKEN, EMPTY_AGAIN,  THEN_SKIPPED, THEN_22,
                                        THEN_24,     SKIPPED_NONE, SKIPPED_TO_0};
@@ -1059,6 +1187,8 @@ static int summary(double seconds) {
     size_t relaxed = seen("relaxing, kind", run.relaxed, kinds + 1, COUNT(kinds) - 1);
     size_t rewritten = seen("rewriting, kind", run.rewritten, kinds, COUNT(kinds));
     size_t refused = seen("refusal", run.refused, refusals, COUNT(refusals));
+    size_t filled = seen("filling, type", run.filled, types, COUNT(types));
+    filled += seen("filling, outcome", run.filling, fillings, COUNT(fillings));
     size_t raised = seen("a tally, kind", run.raised, kinds + 1, COUNT(kinds) - 1);
     raised += seen("a tally, figure", run.raised, figures, COUNT(figures));
     size_t wrapped = seen("a figure's wrap, 0 of records or 1 of bytes:", run.wrapped, wraps, COUNT(wraps));
@@ -1067,9 +1197,9 @@ static int summary(double seconds) {
                     COUNT(empty_refusals));
     printf("%" PRIu64 " calls in %.1f s; %zu kinds relaxed, %zu rewritten, %zu refusals, %zu figures, ", run.calls,
            seconds, relaxed, rewritten, refused, raised);
-    printf("%zu outcomes while a skip is pending\n", pending);
+    printf("%zu outcomes of filling, %zu while a skip is pending\n", filled, pending);
     bool all = relaxed == COUNT(kinds) - 1 && rewritten == COUNT(kinds) && refused == COUNT(refusals);
-    all = all && raised == COUNT(kinds) - 1 + COUNT(figures) && wrapped == COUNT(wraps);
+    all = all && filled == COUNT(types) + COUNT(fillings) && raised == COUNT(kinds) - 1 + COUNT(figures) && wrapped == COUNT(wraps);
     return all && pending == COUNT(pendings) + COUNT(empty_refusals) ? 0 : 1;
 }
 

@@ -1,7 +1,7 @@
 /*
  * What C sees of the library, by documents 01 and 02 alone: the version, every word of a pass and every figure of a
- * tally after a step, empty records inside a pair, records held in place, the texts of numbers, the order of the
- * refusals, with the longest section and one byte more, and the ends of the ranges.
+ * tally after a step, empty records inside a pair, records held in place, fields filled, the texts of numbers, the
+ * order of the refusals, with the longest section and one byte more, and the ends of the ranges.
  */
 #define _DEFAULT_SOURCE
 #include <jitamoro.h>
@@ -425,7 +425,7 @@ static void texts(void) {
             EXPECT(strcmp(jitamoro_kind_name((uint8_t)n), jitamoro_kind_name((uint8_t)m)) != 0, true);
         }
     }
-    EXPECT(refusals, 18);
+    EXPECT(refusals, 20);
     EXPECT(kinds, 19);
     EXPECT(tallied, 22);
     EXPECT(types, 50);
@@ -554,6 +554,15 @@ static void order(void) {
     EXPECT(section[most - 2], 0x66);
     EXPECT(section[most - 1], 0x90);
     EXPECT(section[most], 0);
+    EXPECT(jitamoro_fill(28, section, most + 1, UINT64_MAX, 0, 1ull << 40, 0).refusal, 1);
+    EXPECT(jitamoro_fill(11, section, most, most + 1, 0, 1ull << 40, 0).refusal, 2);
+    EXPECT(jitamoro_fill(11, section, most, most - 3, 0, 1ull << 40, 0).refusal, 16);
+    EXPECT(jitamoro_fill(11, section, most, most - 4, 0, 1ull << 40, 0).refusal, 15);
+    EXPECT(jitamoro_fill(11, section, most, most - 4, 0, 0x12345678, 0).filled, true);
+    EXPECT(section[most - 5], 0);
+    EXPECT(section[most - 4], 0x78);
+    EXPECT(section[most - 1], 0x12);
+    EXPECT(section[most], 0);
     munmap(section, most + 1);
 }
 
@@ -607,6 +616,89 @@ static void ranges(void) {
     EXPECT(jitamoro_allowed_range_contains(false, 0, 0, INT64_MAX), true);
 }
 
+/* ---- Filling a field */
+
+/* What is lent: A5 throughout. */
+struct filling {
+    uint32_t r_type;
+    size_t len;
+    uint64_t offset, address, value;
+    int64_t addend;
+    uint8_t refusal;
+    bool filled;
+    uint8_t bytes[4]; /* of the field, where it is filled */
+};
+
+static void fills(void) {
+    static const struct filling rows[] = {
+        /* each refusal with all that come after it */
+        {28, 8, 9, 0, UINT64_MAX, 0, JITAMORO_REFUSED_OFFSET, false, {0}},
+        {28, 8, UINT64_MAX, 0, UINT64_MAX, 0, JITAMORO_REFUSED_OFFSET, false, {0}},
+        {28, 8, 8, 0, UINT64_MAX, 0, JITAMORO_REFUSED_TYPE, false, {0}},
+        {10, 8, 5, 0, UINT64_MAX, 0, JITAMORO_REFUSED_FIELD, false, {0}},
+        {10, 0, 0, 0, UINT64_MAX, 0, JITAMORO_REFUSED_FIELD, false, {0}},
+        {10, 8, 4, 0, UINT64_MAX, 0, JITAMORO_REFUSED_VALUE, false, {0}},
+        {11, 8, 4, 0, UINT64_MAX, 0, 0, true, {0xff, 0xff, 0xff, 0xff}},
+        /* the ends of the ranges; 2^63 is read as signed */
+        {10, 8, 2, 0, UINT32_MAX, 0, 0, true, {0xff, 0xff, 0xff, 0xff}},
+        {10, 8, 2, 0, 1ull << 32, 0, JITAMORO_REFUSED_VALUE, false, {0}},
+        {10, 8, 2, 0, 1ull << 63, 0, JITAMORO_REFUSED_VALUE, false, {0}},
+        {11, 8, 2, 0, INT32_MAX, 0, 0, true, {0xff, 0xff, 0xff, 0x7f}},
+        {11, 8, 2, 0, 1ull << 31, 0, JITAMORO_REFUSED_VALUE, false, {0}},
+        {23, 8, 2, 0, (uint64_t)INT32_MIN, 0, 0, true, {0, 0, 0, 0x80}},
+        {23, 8, 2, 0, (uint64_t)INT32_MIN, -1, JITAMORO_REFUSED_VALUE, false, {0}},
+        /* sums that wrap; the address counts for type 2 alone */
+        {10, 8, 1, 7, UINT64_MAX, 5, 0, true, {4, 0, 0, 0}},
+        {2, 8, 1, 7, 3, -4, 0, true, {0xf8, 0xff, 0xff, 0xff}},
+        {2, 8, 1, UINT64_MAX, 0, 0, 0, true, {1, 0, 0, 0}},
+        /* other types, with no look at the rest */
+        {0, 0, 0, 0, UINT64_MAX, 0, 0, false, {0}},
+        {4, 8, 8, 0, 1ull << 40, 0, 0, false, {0}},
+        {25, 8, 0, 0, 1, 0, 0, false, {0}},
+    };
+    for (size_t i = 0; i < COUNT(rows); i++) {
+        const struct filling *r = &rows[i];
+        uint8_t section[8], wanted[8];
+        memset(section, 0xa5, sizeof section);
+        memset(wanted, 0xa5, sizeof wanted);
+        struct jitamoro_filled f = jitamoro_fill(r->r_type, section, r->len, r->offset, r->address, r->value, r->addend);
+        if (r->filled) {
+            memcpy(wanted + r->offset, r->bytes, sizeof r->bytes);
+        }
+        if (f.refusal != r->refusal || f.filled != r->filled || memcmp(section, wanted, sizeof section) != 0) {
+            fprintf(stderr, "interface: row %zu of filling\n", i);
+            failures++;
+        }
+    }
+}
+
+/* A record as relaxing and a step leave it. */
+static void filled_records(void) {
+    static const uint8_t call[] = {0x67, 0xe8, 0xfa, 0x0f, 0, 0};
+    uint8_t section[6] = {0xff, 0x15};
+    struct jitamoro_record record = {
+        .r_type = JITAMORO_R_X86_64_GOTPCRELX,
+        .offset = 2,
+        .addend = -4,
+        .address = 0x402000,
+        .flags = JITAMORO_FLAG_NON_INTERPOSABLE,
+        .output_kind = JITAMORO_OUTPUT_STATIC_POSITION_INDEPENDENT,
+        .executable = true,
+    };
+    jitamoro_relax_record(&record, section, sizeof section);
+    uint64_t address = 0x401000 + record.offset;
+    struct jitamoro_filled f = jitamoro_fill_record(&record, section, sizeof section, address, record.address);
+    EXPECT(f.refusal, 0);
+    EXPECT(f.filled, true);
+    EXPECT(memcmp(section, call, sizeof section), 0);
+    struct jitamoro_pass pass = {.pending = 1};
+    EXPECT(jitamoro_step_record(&pass, &record, section, sizeof section).skipped, true);
+    f = jitamoro_fill_record(&record, section, sizeof section, address, 0);
+    EXPECT(f.refusal, 0);
+    EXPECT(f.filled, false);
+    EXPECT(memcmp(section, call, sizeof section), 0);
+}
+
 int main(void) {
     version();
     pass_words();
@@ -621,10 +713,12 @@ int main(void) {
     order();
     others();
     ranges();
+    fills();
+    filled_records();
     if (failures != 0) {
         return 1;
     }
     puts("interface: the version, a pass's words, empty records, a tally's figures, records, texts, the refusals' "
-         "order and ranges are right");
+         "order, ranges and fields filled are right");
     return 0;
 }
