@@ -8,6 +8,7 @@
 //!   side's calls, inside `measured` and once. This is what valgrind is given.
 
 mod driver;
+mod filling;
 mod real;
 mod relaxing;
 
@@ -70,6 +71,7 @@ fn main() {
     for length in [0, 1, 7, 16, 64, LONGEST] {
         time_padding(&driver, length);
     }
+    filling::time_fields(&driver);
     relaxing::time_all(&driver);
     real::time_pairs(&driver);
     for archive in driver.archives() {

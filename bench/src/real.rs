@@ -1,9 +1,10 @@
-//! Times relaxing, choosing and the pass, with a tally and without, over the records of an archive, in its own
+//! Times relaxing, with fields filled and without, choosing and the pass, with a tally and without, over the records of an archive, in its own
 //! sections and order, as each output kind would have them; and steps over pairs with empty records.
 
 use crate::driver::Driver;
 use crate::driver::Inputs;
 use crate::driver::Side;
+use crate::filling;
 use crate::relaxing::Input;
 use crate::relaxing::Pool;
 use crate::relaxing::RUNS;
@@ -68,6 +69,8 @@ pub fn time_archive(driver: &Driver, path: &str) {
     let all = || pool(&objects, &[0, 1, 2, 3, 4, 5]);
     time_relax(driver, &format!("relax, {name}, all six"), all);
     time_choose(driver, &format!("choose, {name}, all six"), all);
+    let filled = format!("relax and fill, {name}, all six");
+    filling::time_records(driver, &filled, all);
     let steps = || Steps::new(all());
     let step = format!("step, {name}, all six");
     driver.case(&step, RUNS, steps, port_step_all, rust_step_all);

@@ -412,7 +412,7 @@ LEAST = {
     "outputs with a name": 6,
     "outputs without": 250,
     "kinds with a name": 19,
-    "refusals with a name": 18,
+    "refusals with a name": 20,
     "whole files": 100,
     "spoiled files": 100,
     "cut files": 100,

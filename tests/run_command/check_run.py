@@ -280,7 +280,9 @@ def check_interrupt(folder, environment):
     calls, kept = folder / "calls", Path(os.environ["TMPDIR"])
     (folder / "does").write_text("sleep 60\n")
     before, called = sorted(kept.iterdir()), calls.stat().st_size
-    with subprocess.Popen([folder / "run"], env=environment, start_new_session=True) as started:
+    # What was started in the background, as a gate may be, ignores the signal, and so would what it starts.
+    heeds = {"preexec_fn": lambda: signal.signal(signal.SIGINT, signal.SIG_DFL)}
+    with subprocess.Popen([folder / "run"], env=environment, start_new_session=True, **heeds) as started:
         deadline = time.monotonic() + 30
         while calls.stat().st_size == called and started.poll() is None and time.monotonic() < deadline:
             time.sleep(0.05)
