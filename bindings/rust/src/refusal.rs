@@ -33,6 +33,9 @@ macro_rules! refusals {
             ///      the bytes to rewrite don't lie wholly in the section",
             /// );
             /// ```
+            ///
+            /// Later versions may have more of them.
+            #[non_exhaustive]
             pub enum Refusal {
                 $(#[doc = concat!($number, ": ", $sentence, ".")] $variant = $number,)*
             }
