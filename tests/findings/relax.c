@@ -1,8 +1,8 @@
 /*
  * What the port answers to one record:
  *     relax TYPE BYTES OFFSET FLAGS KIND [ADDRESS [PLACE]]
- * Numbers as in C, bytes in hexadecimal; executable, addend -4. With PLACE, the address of the first byte, the field
- * is filled as well.
+ * Numbers as in C, bytes in hexadecimal; executable, addend -4. With PLACE, the address of the first byte, the port
+ * fills the field as well.
  */
 #include <stdio.h>
 #include <stdlib.h>
@@ -30,15 +30,10 @@ int main(int argc, char **argv) {
                        (uint8_t)number(5), true, address, -4);
     if (r.choice.refusal != 0) return printf("refused %d\n", r.choice.refusal), 1;
     if (!r.choice.chosen) return puts("none"), 0;
-    bool fits = true;
-    if (argc > 7) {
-        struct jitamoro_relocation row = jitamoro_relocation_from_raw(r.choice.new_type);
-        bool relative = row.kind == JITAMORO_RELOCATION_RELATIVE || row.kind == JITAMORO_RELOCATION_PLT_RELATIVE;
-        uint64_t value = address + (uint64_t)r.addend - (relative ? number(7) + r.offset : 0);
-        fits = jitamoro_allowed_range_contains(row.checked, row.min, row.max, (int64_t)value);
-        for (size_t i = 0; i < row.size && r.offset + i < len; i++) section[r.offset + i] = (uint8_t)(value >> 8 * i);
-    }
+    struct jitamoro_filled f = {0, false};
+    if (argc > 7) f = jitamoro_fill(r.choice.new_type, section, len, r.offset, number(7) + r.offset, address, r.addend);
     for (size_t i = 0; i < len; i++) printf("%s%02x", i == 0 ? "" : " ", section[i]);
-    printf(", type %u at %lu, addend %ld%s%s\n", r.choice.new_type, r.offset, r.addend,
-           r.choice.mandatory ? ", mandatory" : "", fits ? "" : ", which can't hold the value");
+    printf(", type %u at %lu, addend %ld%s", r.choice.new_type, r.offset, r.addend, r.choice.mandatory ? ", mandatory" : "");
+    if (f.refusal != 0) printf("; filling: refused %d", f.refusal);
+    puts("");
 }

@@ -206,7 +206,8 @@ fn contains(r_type: u32, random: &mut Random) {
     }
 }
 
-/// Wild's `write_to_buffer` of a type's row: the edges of its range, in buffers about its size.
+/// Wild's `write_to_buffer` of a type's row: the edges of its range, in buffers about its size, and a value of every range
+/// in buffers of every length.
 fn writes(r_type: u32) {
     let info = oracle::relocation_from_raw(r_type).unwrap();
     let size = byte_size(info.size);
@@ -221,6 +222,9 @@ fn writes(r_type: u32) {
         for length in [size.saturating_sub(1), size, 9] {
             write(r_type, value, length);
         }
+    }
+    for length in 0..=9 {
+        write(r_type, 0x12, length);
     }
 }
 
