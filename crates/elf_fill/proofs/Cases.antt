@@ -2,7 +2,7 @@
 -- Assumes nothing.
 use mathlib.Core.Path.{_≡_, refl, sym, ap, _∙_}
 use mathlib.Core.Bool.{Bool, true, false, not, cond}
-use mathlib.Core.List.{List, [], _∷_, _++_, append-nil, append-assoc}
+use mathlib.Core.List.{List, [], _++_, append-nil, append-assoc}
 use Prim.Native.Nat.{ℕ, _+_, _-_, _≤_, _<_}
 use native.Mathlib.Nat.{zero-add}
 use native.Mathlib.Omega.{arith}
@@ -11,10 +11,11 @@ use lib.ListN.{length, take, drop, length-drop, drop-of-length-le}
 use lib.Seq.{sets, sets-eq, take-all, drop-drop, length-take-le}
 use borrow.Author.Tests.{lt-ltb, le-ltb, ltb-true, ltb-false, eqb-true}
 use borrow.Rule.Slice.PartMut.{midOf, putMid, put-same}
+use Rattle.laws.proofs.Bools.{never}
 use Rattle.rules.specs.declared.Field.{Field}
 use Rattle.rules.specs.Answer.{Answer, gives, refuses, whether}
 use Rattle.rules.specs.Record.{linkLimit}
-use Rattle.rules.specs.Range.{Range, contains, signed64, lowFirst}
+use Rattle.rules.specs.Range.{contains, signed64, lowFirst}
 use Rattle.rules.specs.Types.{Row, lookup, earlierTypes, laterTypes}
 use Rattle.rules.specs.Choose.{inRange}
 use Rattle.rules.specs.Fill.{fills, fieldValue, Fill, unfilled, filled, filling, afterFilling, Fills}
@@ -24,16 +25,13 @@ use Rattle.rules.proofs.Fill.{length-low, of-four, exact}
 use Rattle.rules.proofs.Theorem.{same-meaning}
 use Rattle.rules.proofs.Records.{fill-worked}
 use Rattle.elf.specs.declared.RelocationKindInfo.{RelocationKindInfo}
-use Rattle.elf.specs.Elf.{rangeOf, rangeFrom, infoFrom}
+use Rattle.elf.specs.Elf.{rangeOf, infoFrom}
 use Rattle.elf.proofs.Back.{range-back}
 use Rattle.x86_64_types.specs.declared.RelocationFound.the-variants.{Is, Refused}
 use Rattle.x86_64_types.specs.Types.{foundOf}
-use Rattle.elf_fill.specs.declared.Filled.{Filled}
-use Rattle.elf_fill.specs.declared.Filled.the-variants as answer
-use Rattle.elf_fill.specs.Filling.{filledOf, written}
-
-never : {A : Type 0} → _≡_ {A = ℕ} 0 1 → A
-never z = absurd (omega arith)
+use Rattle.elf_fill.specs.declared.Filling.{Filling}
+use Rattle.elf_fill.specs.declared.Filling.the-variants as answer
+use Rattle.elf_fill.specs.Filling.{fillingOf, written}
 
 module _ (sec : List ℕ) (at : ℕ) where
   -- the part from the offset on, and a part put back there
@@ -58,7 +56,7 @@ module _ (sec : List ℕ) (at : ℕ) where
   through (refuses n) = refuses n
 
   -- the answer, and the bytes
-  pub put-back : (x y : Answer Fill) → x ≡ through y → (filledOf y ≡ filledOf x) × (back (afterFilling part y) ≡ afterFilling sec x)
+  pub put-back : (x y : Answer Fill) → x ≡ through y → (fillingOf y ≡ fillingOf x) × (back (afterFilling part y) ≡ afterFilling sec x)
   unfolding afterFilling
   put-back x (gives (filled out)) e = rw e (refl, refl)
   put-back x (gives unfilled) e = rw e (refl, put-same at (length sec - at) sec)
@@ -79,12 +77,12 @@ four t r q k = eqb-true (r .size) 4 (rw q at (of-four (λ (t : ℕ). whether (λ
 
 module _ (sec : List ℕ) (f : Field) where
   -- the clauses of `fill`, of an answer and the section that it leaves
-  abbrev Does : Filled → List ℕ → Type 0
+  abbrev Does : Filling → List ℕ → Type 0
   Does x new =
-      (x ≡ filledOf (filling linkLimit sec f))
+      (x ≡ fillingOf (filling linkLimit sec f))
       × ((new ≡ afterFilling sec (filling linkLimit sec f)) × (Fills linkLimit sec f × (((sec : List ℕ) → SameMeaning sec) × FillWorked)))
 
-  pub does : {x : Filled} {new : List ℕ} → x ≡ filledOf (filling linkLimit sec f) → new ≡ afterFilling sec (filling linkLimit sec f) → Does x new
+  pub does : {x : Filling} {new : List ℕ} → x ≡ fillingOf (filling linkLimit sec f) → new ≡ afterFilling sec (filling linkLimit sec f) → Does x new
   does p q = (p, (q, (exact linkLimit sec f, (same-meaning, fill-worked))))
 
   pub refused : {n : ℕ} → filling linkLimit sec f ≡ refuses n → Does (answer.Refused n) sec
@@ -124,22 +122,18 @@ module _ (sec : List ℕ) (f : Field) (within : length sec ≤ 268435456) (low :
     go (gives r) q e k = rw (le-ltb 268435456 (length sec) within, le-ltb (length sec) at low, q, k)
     go (refuses m) q e k = never (cc)
 
+  length-part : length (part sec at) ≡ length sec - at
+  length-part = length-take-le (length sec - at) (drop at sec) (omega (arith, length-drop at sec))
+
   -- the same tests, of the part and of the whole
   same : (b : Bool) → ltb (length sec) (at + 4) ≡ b → (g : Bool) (x : ℕ)
       → cond b (refuses 16) (cond (not g) (refuses 15) (gives (filled (sets sec at (lowFirst 4 x)))))
       ≡ through sec at (cond (ltb (length (part sec at)) 4) (refuses 16) (cond g (gives (filled (sets (part sec at) 0 (lowFirst 4 x)))) (refuses 15)))
-  same b e g x = by b e g where
-    n : length (part sec at) ≡ length sec - at
-    n = length-take-le (length sec - at) (drop at sec) (omega (arith, length-drop at sec))
-
-    by : (b : Bool) → ltb (length sec) (at + 4) ≡ b → (g : Bool)
-        → cond b (refuses 16) (cond (not g) (refuses 15) (gives (filled (sets sec at (lowFirst 4 x)))))
-        ≡ through sec at (cond (ltb (length (part sec at)) 4) (refuses 16) (cond g (gives (filled (sets (part sec at) 0 (lowFirst 4 x)))) (refuses 15)))
-    by true e g = let h = ltb-true (length sec) (at + 4) e in rw (n, lt-ltb (length sec - at) 4 (omega arith))
-    by false e false = let h = ltb-false (length sec) (at + 4) e in rw (n, le-ltb (length sec - at) 4 (omega arith))
-    by false e true =
-        let h = ltb-false (length sec) (at + 4) e in
-        rw (n, le-ltb (length sec - at) 4 (omega arith)) (ap (λ (l : List ℕ). gives (filled l)) (sym (stored sec at (lowFirst 4 x) (omega (arith, length-low 4 x)))))
+  same true e g x = let h = ltb-true (length sec) (at + 4) e in rw (length-part, lt-ltb (length sec - at) 4 (omega arith))
+  same false e false x = let h = ltb-false (length sec) (at + 4) e in rw (length-part, le-ltb (length sec - at) 4 (omega arith))
+  same false e true x =
+      let h = ltb-false (length sec) (at + 4) e in
+      rw (length-part, le-ltb (length sec - at) 4 (omega arith)) (ap (λ (l : List ℕ). gives (filled l)) (sym (stored sec at (lowFirst 4 x) (omega (arith, length-low 4 x)))))
 
   pub written-is : {info : RelocationKindInfo} → Is info ≡ foundOf (lookup t) → fills t ≡ true
       → filling linkLimit sec f ≡ through sec at (written (info .size .«byte_size») (rangeOf (info .range)) (fieldValue f) (part sec at))
@@ -153,8 +147,8 @@ module _ (sec : List ℕ) (f : Field) (within : length sec ≤ 268435456) (low :
         (same (ltb (length sec) (at + 4)) refl (contains (r .range) (signed64 (fieldValue f))) (fieldValue f))
     go (refuses m) q e k = never (cc)
 
-  pub filled-by : {info : RelocationKindInfo} {v : ℕ} {x : Filled} {new : List ℕ} → Is info ≡ foundOf (lookup t) → fills t ≡ true → v ≡ fieldValue f
-      → x ≡ filledOf (written (info .size .«byte_size») (rangeOf (info .range)) v (part sec at))
+  pub filled-by : {info : RelocationKindInfo} {v : ℕ} {x : Filling} {new : List ℕ} → Is info ≡ foundOf (lookup t) → fills t ≡ true → v ≡ fieldValue f
+      → x ≡ fillingOf (written (info .size .«byte_size») (rangeOf (info .range)) v (part sec at))
       → new ≡ afterFilling (part sec at) (written (info .size .«byte_size») (rangeOf (info .range)) v (part sec at))
       → Does sec f x (back sec at new)
   filled-by e k u p q =

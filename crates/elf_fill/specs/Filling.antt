@@ -8,14 +8,14 @@ use lib.Seq.{sets}
 use Rattle.rules.specs.Answer.{Answer, gives, refuses}
 use Rattle.rules.specs.Range.{Range, contains, signed64, lowFirst}
 use Rattle.rules.specs.Fill.{Fill, unfilled, filled}
-use Rattle.elf_fill.specs.declared.Filled.{Filled}
-use Rattle.elf_fill.specs.declared.Filled.the-variants.{Nothing, Done, Refused}
+use Rattle.elf_fill.specs.declared.Filling.{Filling}
+use Rattle.elf_fill.specs.declared.Filling.the-variants.{Nothing, Done, Refused}
 
 -- the bytes are in the section
-abbrev pub filledOf : Answer Fill → Filled
-filledOf (gives unfilled) = Nothing
-filledOf (gives (filled new)) = Done
-filledOf (refuses n) = Refused n
+abbrev pub fillingOf : Answer Fill → Filling
+fillingOf (gives unfilled) = Nothing
+fillingOf (gives (filled new)) = Done
+fillingOf (refuses n) = Refused n
 
 -- w bytes at the begin of what is lent: 16, then 15
 abbrev pub written : ℕ → Range → ℕ → List ℕ → Answer Fill

@@ -9,12 +9,12 @@ ghost use Rattle.rules.specs.Fill.{fills, fieldValue, filling, afterFilling, Fi
 ghost use Rattle.rules.specs.Meaning.{SameMeaning};
 ghost use Rattle.rules.specs.Records.{FillWorked};
 ghost use Rattle.elf.specs.Elf.{rangeOf};
-ghost use Rattle.elf_fill.specs.Filling.{filledOf, written};
+ghost use Rattle.elf_fill.specs.Filling.{fillingOf, written};
 use elf::RelocationKindInfo;
 use rules::Field;
 use x86_64_types::RelocationFound;
 
-pub enum Filled {
+pub enum Filling {
     Nothing,
     Done,
     Refused(u8),
@@ -23,29 +23,33 @@ pub enum Filled {
 // Fills a field of type 2, 10, 11 or 23; other types that the lookup knows are none. Refusals 1, 2, 7, 16, 15; a refusal
 // and none change nothing. Where it says done, the section is document 01's Filled, and exactly there; and after relaxing
 // a record the machine ends alike on the old instruction and on the new one.
-pub fn fill(section_bytes: &mut [u8], field: Field) -> Filled
-    ensures { λ r. ⌜ r ≡ filledOf (filling linkLimit (now («section_bytes» .entry)) field) ⌝ }
+pub fn fill(section_bytes: &mut [u8], field: Field) -> Filling
+    ensures { λ r. ⌜ r ≡ fillingOf (filling linkLimit (now («section_bytes» .entry)) field) ⌝ }
     ensures { λ _. ⌜ now («section_bytes» .exit) ≡ afterFilling (now («section_bytes» .entry)) (filling linkLimit (now («section_bytes» .entry)) field) ⌝ }
     ensures { λ _. ⌜ Fills linkLimit (now («section_bytes» .entry)) field ⌝ }
     ensures { λ _. ⌜ ((sec : List ℕ) → SameMeaning sec) ⌝ }
     ensures { λ _. ⌜ FillWorked ⌝ }
 {
     if rules::section_limit() < section_bytes.len() {
-        return Filled::Refused(1);
+        return Filling::Refused(1);
     }
     let offset = field.offset as usize;
     if section_bytes.len() < offset {
-        return Filled::Refused(2);
+        return Filling::Refused(2);
+    }
+    // Ahead of the lookup, which then needs no table of jumps.
+    let filled = is_filled(field.r_type);
+    if filled {
+        return match x86_64_types::relocation_from_raw(field.r_type) {
+            RelocationFound::Refused(_) => Filling::Refused(7),
+            RelocationFound::Is(info) => {
+                write_to_buffer(info, relocated(field), &mut section_bytes[offset..])
+            }
+        };
     }
     match x86_64_types::relocation_from_raw(field.r_type) {
-        RelocationFound::Refused(_) => Filled::Refused(7),
-        RelocationFound::Is(info) => {
-            let filled = is_filled(field.r_type);
-            if filled {
-                return write_to_buffer(info, relocated(field), &mut section_bytes[offset..]);
-            }
-            Filled::Nothing
-        }
+        RelocationFound::Refused(_) => Filling::Refused(7),
+        RelocationFound::Is(_) => Filling::Nothing,
     }
 }
 
@@ -70,25 +74,20 @@ fn relocated(field: Field) -> u64
 }
 
 // RelocationKindInfo::write_to_buffer, which tests the range first: here 16 comes before 15.
-fn write_to_buffer(info: RelocationKindInfo, value: u64, output: &mut [u8]) -> Filled
-    ensures { λ r. ⌜ r ≡ filledOf (written (info .size .«byte_size») (rangeOf (info .range)) value (now (output .entry))) ⌝ }
+pub fn write_to_buffer(info: RelocationKindInfo, value: u64, output: &mut [u8]) -> Filling
+    ensures { λ r. ⌜ r ≡ fillingOf (written (info .size .«byte_size») (rangeOf (info .range)) value (now (output .entry))) ⌝ }
     ensures { λ _. ⌜ now (output .exit) ≡ afterFilling (now (output .entry)) (written (info .size .«byte_size») (rangeOf (info .range)) value (now (output .entry))) ⌝ }
 {
     let byte_size = info.size.byte_size as usize;
     if output.len() < byte_size {
-        return Filled::Refused(16);
+        return Filling::Refused(16);
     }
     let verified = verify(info, elf::as_i64(value));
     if verified {
-        // As in the Rust, the compiler is told the usual size.
-        if byte_size == 4 {
-            elf::write_low_first(value, &mut output[..4]);
-        } else {
-            elf::write_low_first(value, &mut output[..byte_size]);
-        }
-        return Filled::Done;
+        elf::write_low_first(value, &mut output[..byte_size]);
+        return Filling::Done;
     }
-    Filled::Refused(15)
+    Filling::Refused(15)
 }
 
 // RelocationKindInfo::verify. On x86-64 every row has alignment 1, which any value has.

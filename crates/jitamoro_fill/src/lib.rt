@@ -6,9 +6,9 @@ ghost use Prim.Native.Nat.{ℕ};
 ghost use Rattle.rules.specs.Record.{linkLimit};
 ghost use Rattle.rules.specs.Fill.{field, filling, afterFilling, Fills};
 ghost use Rattle.rules.specs.Meaning.{SameMeaning};
-ghost use Rattle.elf_fill.specs.Filling.{filledOf};
+ghost use Rattle.elf_fill.specs.Filling.{fillingOf};
 ghost use Rattle.jitamoro_fill.specs.Layout.{filledLayout};
-use elf_fill::Filled;
+use elf_fill::Filling;
 use rules::Field;
 
 // A refusal or 0, and whether the field was filled: not under a refusal, nor where the type is another one.
@@ -28,7 +28,7 @@ pub extern "C" fn jitamoro_fill(
     value: u64,
     addend: i64,
 ) -> FilledAnswer
-    ensures { λ r. ⌜ r ≡ filledLayout (filledOf (filling linkLimit (now (section .entry)) (field «r_type» offset address value addend))) ⌝ }
+    ensures { λ r. ⌜ r ≡ filledLayout (fillingOf (filling linkLimit (now (section .entry)) (field «r_type» offset address value addend))) ⌝ }
     ensures { λ _. ⌜ now (section .exit) ≡ afterFilling (now (section .entry)) (filling linkLimit (now (section .entry)) (field «r_type» offset address value addend)) ⌝ }
     ensures { λ _. ⌜ Fills linkLimit (now (section .entry)) (field «r_type» offset address value addend) ⌝ }
     ensures { λ _. ⌜ ((sec : List ℕ) → SameMeaning sec) ⌝ }
@@ -43,19 +43,19 @@ pub extern "C" fn jitamoro_fill(
     filled_answer(elf_fill::fill(section, field))
 }
 
-fn filled_answer(filled: Filled) -> FilledAnswer
+fn filled_answer(filled: Filling) -> FilledAnswer
     ensures { λ r. ⌜ r ≡ filledLayout filled ⌝ }
 {
     match filled {
-        Filled::Nothing => FilledAnswer {
+        Filling::Nothing => FilledAnswer {
             refusal: 0,
             filled: false,
         },
-        Filled::Done => FilledAnswer {
+        Filling::Done => FilledAnswer {
             refusal: 0,
             filled: true,
         },
-        Filled::Refused(n) => FilledAnswer {
+        Filling::Refused(n) => FilledAnswer {
             refusal: n,
             filled: false,
         },

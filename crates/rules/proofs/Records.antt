@@ -5,7 +5,7 @@ use Rattle.rules.specs.Types.{earlierTypes, laterTypes, lookup}
 use Rattle.rules.specs.Plt.{template, displacement, inReach, pltAnswer, pltBytes}
 use Rattle.rules.specs.Choose.{given, pick, inRange, rexAbsolute, movLoad, branchTo, tpoffLoad, ldCall, isRex2W, descChoice, rexGotpcrelx, gotpcrelx, gotpcrel, gottpoff, code6Gottpoff, tlsgd, tlsld, tlsdesc, choose, choosing, needsGotFallback}
 use Rattle.rules.specs.Rewrite.{rexMoved, rex2Moved, rexCopied, evexMoved, claims, relaxChosen, relaxing}
-use Rattle.rules.specs.Fill.{filling}
+use Rattle.rules.specs.Fill.{filling, afterFilling}
 use Rattle.rules.specs.Records.{TypesWorked, FallbackWorked, PltWorked, FillWorked}
 use Rattle.rules.specs.Starred.{StarredHold}
 
@@ -22,8 +22,8 @@ unfolding byteRange signed64 template displacement inReach pltAnswer pltBytes
 plt-worked = record { order = refl; blank = refl; short = refl }
 
 pub fill-worked : FillWorked
-unfolding byteRange signed64 earlierTypes laterTypes lookup inRange filling
-fill-worked = record { order = refl; others = refl; unsigned32 = refl; signed32 = refl; wraps = refl; ends = refl }
+unfolding byteRange signed64 earlierTypes laterTypes lookup inRange filling afterFilling
+fill-worked = record { order = refl; others = refl; unsigned32 = refl; signed32 = refl; wraps = refl; ends = refl; kept = refl }
 
 pub starred-hold : StarredHold
 unfolding byteRange signed64 earlierTypes laterTypes lookup given pick inRange rexAbsolute movLoad branchTo tpoffLoad ldCall isRex2W descChoice rexGotpcrelx gotpcrelx gotpcrel gottpoff code6Gottpoff tlsgd tlsld tlsdesc choose choosing rexMoved rex2Moved rexCopied evexMoved claims relaxChosen relaxing template displacement inReach pltAnswer pltBytes

@@ -19,7 +19,7 @@ use Rattle.rules.specs.Choose.{Choice, none, chosen, isRexW, choose, cho
 use Rattle.rules.specs.Rewrite.{toAbsolute, Rewritten, Filled, relaxed, rewritten, rewrite, rewriting, claims, relaxChosen, relaxing}
 use Rattle.rules.specs.Meaning.{covered, head, begins, start, Instruction, slotValue, Alike, EndsAlike, SameMeaning}
 use Rattle.rules.specs.Machine.{State, step}
-use Rattle.laws.proofs.Bools.{either}
+use Rattle.laws.proofs.Bools.{either, never}
 use Rattle.laws.proofs.Keys.{is}
 use Rattle.rules.proofs.Fill.{exact}
 use Rattle.rules.proofs.Forms.{addendFor}
@@ -36,7 +36,7 @@ Anyhow sec r t x =
 -- what filling leaves is Filled
 ends-alike : {sec : List ℕ} {r : Relocation} {t : ℕ} {x : Rewritten} → Anyhow sec r t x → EndsAlike sec r t x
 ends-alike {x = x} f =
-    record { anyhow = f; byFill = λ base s new l e. f base s new (exact l (x .bytes) _ .leaves base refl new e) }
+    record { anyhow = f; byFill = λ base s new l e. f base s new (exact l (x .bytes) _ .leaves base (λ _. refl) new e) }
 
 -- what a choice means for a record
 abbrev Means : List ℕ → Relocation → Choice → Type 0
@@ -120,9 +120,6 @@ module _ (sec : List ℕ) (r : Relocation) (i : Instruction sec r) where
       }
 
 -- ---- from relaxing, and from choosing and rewriting, to the choice and the rewritten section
-
-never : {A : Type 0} → _≡_ {A = ℕ} 0 1 → A
-never z = absurd (omega arith)
 
 -- what stands behind a test that refuses, and what is given where a test holds
 pub behind : {A : Type 0} (c : Bool) (n : ℕ) (x : Answer A) (a : A) → cond c (refuses n) x ≡ gives a → x ≡ gives a

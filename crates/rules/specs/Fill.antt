@@ -68,9 +68,9 @@ afterFilling sec (refuses n) = sec
 abbrev pub FilledAt : Field → ℕ → List ℕ → List ℕ → Type 0
 FilledAt f base old new = Filled (f .«r_type») (f .addend) (f .offset) base (f .value) old new
 
--- the field's address is the load address of its offset
+-- the field's address, which counts for type 2, is the load address of its offset
 abbrev pub loadedAt : Field → ℕ → Type 0
-loadedAt f base = f .address ≡ (base + f .offset) % 2 ^ 64
+loadedAt f base = f .«r_type» ≡ 2 → f .address ≡ (base + f .offset) % 2 ^ 64
 
 -- the sign that a type's field is read back with
 abbrev pub signOf : ℕ → Sign

@@ -9,7 +9,7 @@ use Rattle.rules.specs.Answer.{Answer, gives, refuses}
 use Rattle.rules.specs.Range.{Range, within, unchecked}
 use Rattle.rules.specs.Types.{Entry, Row, types, lookup}
 use Rattle.rules.specs.Choose.{needsGotFallback}
-use Rattle.rules.specs.Fill.{Fill, unfilled, filled, field, filling}
+use Rattle.rules.specs.Fill.{Fill, unfilled, filled, field, filling, afterFilling}
 use Rattle.rules.specs.Plt.{template, pltAnswer, pltBytes}
 
 abbrev rangeAt : ℕ → Answer Range
@@ -57,6 +57,10 @@ fillAt t n at p v a = filling (record { most = 8; refusal = 1 }) (lent n) (field
 abbrev fill4 : ℕ → ℕ → Answer Fill
 fill4 t v = fillAt t 4 0 0 v (pos 0)
 
+-- n types that are left alone
+abbrev left : ℕ → List (Answer Fill)
+left n = replicate n (gives unfilled)
+
 abbrev bytes4 : ℕ → ℕ → ℕ → ℕ → Answer Fill
 bytes4 a b c d = gives (filled (a ∷ b ∷ c ∷ d ∷ []))
 
@@ -66,8 +70,10 @@ pub record FillWorked : Type 0 where
       fillAt 28 9 10 0 (2 ^ 64 - 1) (pos 0) ∷ fillAt 28 3 4 0 (2 ^ 64 - 1) (pos 0) ∷ fillAt 28 3 3 0 (2 ^ 64 - 1) (pos 0)
       ∷ fillAt 10 3 0 0 (2 ^ 64 - 1) (pos 0) ∷ fillAt 10 4 0 0 (2 ^ 64 - 1) (pos 0) ∷ []
       ≡ refuses 1 ∷ refuses 2 ∷ refuses 7 ∷ refuses 16 ∷ refuses 15 ∷ []
-  -- "with no test of 16 or 15", "in an empty section too"
-  pub others : map (λ (t : ℕ). fillAt t 0 0 0 (2 ^ 64 - 1) (pos 0)) (0 ∷ 1 ∷ 4 ∷ 22 ∷ 25 ∷ []) ≡ replicate 5 (gives unfilled)
+  -- "types 2, 10, 11 and 23" of the 39, by 16; the others "with no test of 16 or 15", "in an empty section too"
+  pub others :
+      map (λ (e : Entry). fillAt (e .type) 0 0 0 (2 ^ 64 - 1) (pos 0)) types
+      ≡ left 2 ++ (refuses 16 ∷ left 3) ++ (refuses 16 ∷ refuses 16 ∷ left 9) ++ (refuses 16 ∷ left 21)
   -- "type 10 takes 2^32 − 1 and refuses −1; 2^63 and 2^64 − 1 are read as signed"
   pub unsigned32 :
       map (fill4 10) (0 ∷ (2 ^ 32 - 1) ∷ (2 ^ 32) ∷ (2 ^ 63) ∷ (2 ^ 64 - 1) ∷ [])
@@ -83,3 +89,5 @@ pub record FillWorked : Type 0 where
   pub ends :
       map (λ (at : ℕ). fillAt 23 8 at 0 0x1234 (pos 0)) (3 ∷ 4 ∷ 5 ∷ [])
       ≡ gives (filled (lent 3 ++ (0x34 ∷ 0x12 ∷ 0 ∷ 0 ∷ 0xA5 ∷ []))) ∷ gives (filled (lent 4 ++ (0x34 ∷ 0x12 ∷ 0 ∷ 0 ∷ []))) ∷ refuses 16 ∷ []
+  -- "A refusal writes no byte"; none "leave the section unchanged"
+  pub kept : map (afterFilling (lent 4)) (fill4 10 (2 ^ 64 - 1) ∷ fill4 4 0 ∷ fill4 10 0 ∷ []) ≡ lent 4 ∷ lent 4 ∷ replicate 4 0 ∷ []

@@ -18,22 +18,27 @@ fill-spec =
     (λ c. let a = c .before .before .before .before .args in
     let e = c .before .before .section-limit .ensures .0 in
     refused (a .section-bytes .now) (a .field) (over (a .section-bytes .now) (a .field) (omega arith) (omega arith)))
-    (λ c κs. search needs) (λ c. search needs) (λ c. search needs) (λ c κs. search needs) (λ c κs. search needs)
-    (λ c. search needs) (λ c. search needs) (λ c. search needs) (λ c κs. search needs) (λ c. search needs)
-    (λ c. let i = c .before .before .before .before .before .before .before .before in
+    (λ c κs. search needs) (λ c κs. search needs) (λ c. search needs) (λ c. search needs) (λ c κs. search needs) (λ c. search needs) (λ c. search needs)
+    (λ c. search needs) (λ c κs. search needs)
+    (λ c. let r = c .before .before in
+    let a = r .before .before .before .before .before .before .before .args in
+    let e = r .before .before .before .before .before .section-limit .ensures .0 in
+    refused (a .section-bytes .now) (a .field) (missing (a .section-bytes .now) (a .field) (omega arith) (omega arith) (sym (c .enum-told .given .1) ∙ r .relocation-from-raw .ensures .0)))
+    (λ c. search needs)
+    (λ c. let i = c .before .before .before .before .before .before in
     let r = i .before .before in
-    let a = r .before .before .before .before .before .args in
-    let e = r .before .before .before .section-limit .ensures .0 in
+    let a = r .before .before .before .before .before .before .before .args in
+    let e = r .before .before .before .before .before .section-limit .ensures .0 in
     let w = c .before .before .write-to-buffer .ensures in
     filled-by (a .section-bytes .now) (a .field) (omega arith) (omega arith) (sym (i .info .given .1) ∙ r .relocation-from-raw .ensures .0)
-    (sym (c .before .before .before .before .before .before .is-filled .ensures) ∙ c .before .before .before .before .before .if3 .taken) (c .before .before .before .before .relocated .ensures) (w .0) (w .1))
+    (sym (r .before .before .is-filled .ensures) ∙ r .before .if3 .taken) (c .before .before .before .before .relocated .ensures) (w .0) (w .1))
+    (λ c κs. search needs) (λ c. search needs) (λ c. search needs)
     (λ c. let r = c .before .before in
-    let a = r .before .before .before .before .before .args in
-    let e = r .before .before .before .section-limit .ensures .0 in
-    refused (a .section-bytes .now) (a .field) (missing (a .section-bytes .now) (a .field) (omega arith) (omega arith) (sym (c .enum-told .given .1) ∙ r .relocation-from-raw .ensures .0)))
-    (λ c. let i = c .before .before .before in
-    let r = i .before .before in
-    let a = r .before .before .before .before .before .args in
-    let e = r .before .before .before .section-limit .ensures .0 in
+    let a = r .before .before .before .before .before .before .before .args in
+    let e = r .before .before .before .before .before .section-limit .ensures .0 in
+    refused (a .section-bytes .now) (a .field) (missing (a .section-bytes .now) (a .field) (omega arith) (omega arith) (sym (c .enum-told2 .given .1) ∙ r .relocation-from-raw2 .ensures .0)))
+    (λ c. let r = c .before .before in
+    let a = r .before .before .before .before .before .before .before .args in
+    let e = r .before .before .before .before .before .section-limit .ensures .0 in
     left-alone (a .section-bytes .now) (a .field)
-    (nothing (a .section-bytes .now) (a .field) (omega arith) (omega arith) (sym (i .info .given .1) ∙ r .relocation-from-raw .ensures .0) (sym (c .before .is-filled .ensures) ∙ c .if3 .left))))
+    (nothing (a .section-bytes .now) (a .field) (omega arith) (omega arith) (sym (c .enum-told3 .given .1) ∙ r .relocation-from-raw2 .ensures .0) (sym (r .before .before .is-filled .ensures) ∙ r .before .if3 .left))))

@@ -25,16 +25,10 @@ write-to-buffer-spec =
     (λ c. search needs)
     (λ c. rw (lt-ltb _ _ (c .if1 .taken)) (search needs))
     (λ c κs. search needs) (λ c κs. search needs)
-    (λ c. search needs) (λ c. sym (length-take-le 4 (c .before .before .before .before .before .before .before .before .args .output .now) (omega arith))) (λ c κs. search needs)
-    (λ c. search needs) (λ c. let a = c .before .before .before .before .before .before .before .before .args in sym (length-take-le (a .info .size .«byte_size») (a .output .now) (omega arith))) (λ c κs. search needs)
+    (λ c. search needs) (λ c. let a = c .before .before .before .before .before .before .before .args in sym (length-take-le (a .info .size .«byte_size») (a .output .now) (omega arith))) (λ c κs. search needs)
     (λ c. search needs)
-    (λ c. let v = c .before .before .before .before .before in
+    (λ c. let v = c .before .before .before .before in
     let a = v .before .before .before .before .before .before .args in
     rw (le-ltb _ _ (v .before .before .before .if1 .left), verified (v .before), v .if2 .taken)
-    (refl, rw (c .before .before .write-low-first .ensures .0, c .before .before .before .before .if3 .taken) (prefix 4 (a .value) (a .output .now) (omega arith))))
-    (λ c. search needs)
-    (λ c. let v = c .before .before .before .before .before in
-    let a = v .before .before .before .before .before .before .args in
-    rw (le-ltb _ _ (v .before .before .before .if1 .left), verified (v .before), v .if2 .taken)
-    (refl, rw (c .before .before .write-low-first2 .ensures .0) (prefix (a .info .size .«byte_size») (a .value) (a .output .now) (omega arith))))
+    (refl, rw (c .before .before .write-low-first .ensures .0) (prefix (a .info .size .«byte_size») (a .value) (a .output .now) (omega arith))))
     (λ c. rw (le-ltb _ _ (c .before .before .before .if1 .left), verified (c .before), c .if2 .left) (search needs)))

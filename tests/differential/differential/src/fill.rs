@@ -99,16 +99,16 @@ pub fn fill(field: &Field, section: &mut [u8]) -> Filled {
             },
             unwritten: None,
         },
-        Err(unwritten) => {
-            let refusal = if is_cut(info, output.len()) { 16 } else { 15 };
-            Filled::refused(refusal, Some(unwritten))
-        }
+        Err(unwritten) => Filled::refused(refusal(info, output.len()), Some(unwritten)),
     }
 }
 
-/// Whether wild finds no room for a value that is in every range.
-fn is_cut(info: RelocationKindInfo, length: usize) -> bool {
+/// The refusal of what wild doesn't write: 16 where it finds no room for 0 either, which is in every range, else 15.
+pub fn refusal(info: RelocationKindInfo, length: usize) -> u8 {
     let mut output = [0; 8];
     let length = length.min(output.len());
-    write_to_buffer(info, 0, &mut output[..length]) == Err(Unwritten::Bounds)
+    match write_to_buffer(info, 0, &mut output[..length]) {
+        Err(Unwritten::Bounds) => 16,
+        _ => 15,
+    }
 }

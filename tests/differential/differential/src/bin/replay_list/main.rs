@@ -12,11 +12,11 @@ use differential::around;
 use differential::byte_size;
 use differential::fill;
 use differential::fill::Field;
-use differential::fill::Unwritten;
 use differential::kind_number;
 use libwild::oracle;
 use libwild::oracle::AllowedRange;
 use libwild::oracle::Sign;
+use std::collections::BTreeSet;
 use std::process::ExitCode;
 
 const SEED: u64 = 1;
@@ -206,36 +206,32 @@ fn contains(r_type: u32, random: &mut Random) {
     }
 }
 
-/// Wild's `write_to_buffer` of a type's row: the edges of its range, in buffers about its size, and a value of every range
-/// in buffers of every length.
+/// Wild's `write_to_buffer` of a type's row: both sides of each end of its range, in buffers about its size, and a value of
+/// every range in buffers of every length.
 fn writes(r_type: u32) {
     let info = oracle::relocation_from_raw(r_type).unwrap();
     let size = byte_size(info.size);
-    let edges =
-        [info.range.min, info.range.max].map(|edge| around(edge.wrapping_sub(1), 1).take(2));
-    let values = edges.into_iter().flatten();
-    for value in values.chain([-1, 0x0123_4567_89ab_cdef]) {
-        // Left out: i64::MAX in an unchecked range.
-        if info.range == AllowedRange::no_check() && value == i64::MAX {
-            continue;
-        }
-        for length in [size.saturating_sub(1), size, 9] {
-            write(r_type, value, length);
-        }
-    }
-    for length in 0..=9 {
-        write(r_type, 0x12, length);
+    let ends = [info.range.min, info.range.max].map(|end| [end.wrapping_sub(1), end]);
+    let mut values = ends.concat();
+    values.extend([-1, 0x0123_4567_89ab_cdef]);
+    // Left out: i64::MAX in an unchecked range.
+    values.retain(|value| info.range != AllowedRange::no_check() || *value != i64::MAX);
+    let lengths = [size.saturating_sub(1), size, 9];
+    let about = |value| lengths.map(|length| (value, length));
+    let every = (0..=9).map(|length| (0x12, length));
+    let asked: BTreeSet<_> = values.into_iter().flat_map(about).chain(every).collect();
+    for (value, length) in asked {
+        write(r_type, value, length);
     }
 }
 
 fn write(r_type: u32, value: i64, length: u8) {
     let info = oracle::relocation_from_raw(r_type).unwrap();
-    let mut buffer = [BEFORE; 16];
+    let mut buffer = [BEFORE; 10];
     let lent = &mut buffer[..usize::from(length)];
     let answer = match fill::write_to_buffer(info, value as u64, lent) {
-        Ok(()) => 0,
-        Err(Unwritten::Range) => 15,
-        Err(Unwritten::Bounds) => 16,
+        Ok(()) => 255,
+        Err(_) => fill::refusal(info, lent.len()),
     };
     let asked = r_type.to_le_bytes();
     record(&[
@@ -263,7 +259,9 @@ fn fills() {
         0,
         0x1234_5678,
         (1 << 31) - 1,
+        1 << 31,
         -1 << 31,
+        (-1 << 31) - 1,
         u32::MAX.into(),
         1 << 32,
         -1,
