@@ -471,7 +471,7 @@ static inline struct jitamoro_step jitamoro_tally_step_record(struct jitamoro_pa
  * Fills a field of type 2 (PC32), 10 (32), 11 (32S) or 23 (TPOFF32): value + addend, for type 2 less `address`, both
  * wrapping at 2^64; its low four bytes go to `offset`, low byte first, and no other byte changes. `address` is the
  * field's own, where the program will have it: it is taken as it is given, and not computed from the offset. `value` is
- * the symbol's address, and for type 23 its offset from the thread pointer. Every other type of
+ * the symbol's address, and for type 23 its offset from the thread pointer, modulo 2^64. Every other type of
  * jitamoro_relocation_from_raw, 0 (NONE) and 4 (PLT32) among them, is neither filled nor refused. Refusals 1, 2, 7; then,
  * of the four types, 16 and 15: the sum, read as signed, isn't in the type's range (jitamoro_relocation_from_raw).
  */

@@ -1,5 +1,6 @@
 //! Times filling a field: by itself, and after relaxing, over the records of real sections. The Rust looks the row up,
-//! computes the value and hands it to wild's `write_to_buffer`; after relaxing it has the row already, as wild does.
+//! computes the value and hands it to wild's `write_to_buffer`; after relaxing it has the row already, as wild does. Both
+//! must leave the same bytes.
 
 use crate::SEED;
 use crate::driver::Driver;
@@ -46,7 +47,7 @@ const NONE: RustFilled = RustFilled {
     filled: false,
 };
 
-/// Whether the port fills fields of such a row: of types 2, 10, 11 and 23. (Type 26 has the row of 2; libc.a hasn't it.)
+/// Whether the port fills fields of such a row, as far as a row tells: type 26 has that of 2, and isn't filled.
 #[inline(always)]
 fn is_filled(info: &RelocationKindInfo) -> bool {
     let four = matches!(info.size, RelocationSize::ByteSize(4));
@@ -91,7 +92,7 @@ unsafe extern "C" fn rust_fill(
             filled: false,
         };
     };
-    if !is_filled(&info) {
+    if !FILLED_TYPES.contains(&r_type) {
         return NONE;
     }
     let field = Field {
@@ -161,6 +162,10 @@ fn fill_all<T>(function: Fill<T>, it: &mut Fields, calls: usize) -> Duration {
 
 pub fn time_fields(driver: &Driver) {
     let time = |name: &str, from: &[u32]| {
+        let (mut port, mut rust) = (fields(from), fields(from));
+        fill_all::<FilledAnswer>(sys::jitamoro_fill, &mut port, FIELDS);
+        fill_all(rust_fill, &mut rust, FIELDS);
+        assert!(port.bytes == rust.bytes, "filling leaves other bytes");
         driver.case(
             &format!("fill, {name}"),
             RUNS,

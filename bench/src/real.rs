@@ -1,5 +1,5 @@
-//! Times relaxing, with fields filled and without, choosing and the pass, with a tally and without, over the records of an archive, in its own
-//! sections and order, as each output kind would have them; and steps over pairs with empty records.
+//! Times relaxing, with fields filled and without, choosing and the pass, with a tally and without, over the records of an
+//! archive, in its own sections and order, as each output kind would have them; and steps over pairs with empty records.
 
 use crate::driver::Driver;
 use crate::driver::Inputs;

@@ -1199,7 +1199,8 @@ static int summary(double seconds) {
            seconds, relaxed, rewritten, refused, raised);
     printf("%zu outcomes of filling, %zu while a skip is pending\n", filled, pending);
     bool all = relaxed == COUNT(kinds) - 1 && rewritten == COUNT(kinds) && refused == COUNT(refusals);
-    all = all && filled == COUNT(types) + COUNT(fillings) && raised == COUNT(kinds) - 1 + COUNT(figures) && wrapped == COUNT(wraps);
+    all = all && raised == COUNT(kinds) - 1 + COUNT(figures) && wrapped == COUNT(wraps);
+    all = all && filled == COUNT(types) + COUNT(fillings);
     return all && pending == COUNT(pendings) + COUNT(empty_refusals) ? 0 : 1;
 }
 

@@ -499,29 +499,18 @@ static void refusals(int line, const struct asked *a, int step_, int relax_, int
 
 #define REFUSALS(step_, relax_, choose_, apply_) refusals(__LINE__, &a, step_, relax_, choose_, apply_)
 
-static void order(void) {
-    const size_t most = JITAMORO_MAX_SECTION_LENGTH;
-    EXPECT(most, 268435456);
-    /* Pages that nobody touches take no memory. */
-    uint8_t *section = mmap(NULL, most + 1, PROT_READ | PROT_WRITE, MAP_PRIVATE | MAP_ANONYMOUS | MAP_NORESERVE, -1, 0);
-    if (section == MAP_FAILED) {
-        perror("interface: mmap");
-        failures++;
-        return;
-    }
-    struct asked a = {
-        .pass = {.last = UINT64_MAX, .window = most, .pending = 7, .ended = 255},
-        .section = section, .len = most + 1, .offset = UINT64_MAX - 1, .flags = 16, .output_kind = 6,
-        .kind = JITAMORO_KIND_REX_MOV_INDIRECT_TO_ABSOLUTE, .inst_offset = 5,
-    };
+enum { MOST = JITAMORO_MAX_SECTION_LENGTH };
+
+/* Refusals up to 4, and 5. */
+static struct asked order_of_records(struct asked a) {
     REFUSALS(21, 1, 1, 1);
     a.pass.ended = 0;
     REFUSALS(1, 1, 1, 1);
-    a.offset = most + 2;
+    a.offset = MOST + 2;
     REFUSALS(1, 1, 1, 1);
-    a.offset = most + 1; /* no longer above the length */
+    a.offset = MOST + 1; /* no longer above the length */
     REFUSALS(1, 1, 1, 1);
-    a.len = most;
+    a.len = MOST;
     REFUSALS(2, 2, 2, 2);
     a.offset = UINT64_MAX - 1;
     REFUSALS(2, 2, 2, 2);
@@ -529,41 +518,70 @@ static void order(void) {
     REFUSALS(3, 3, 3, 5);
     a.inst_offset = 3;
     REFUSALS(3, 3, 3, 6);
-    a.offset = most - 1;
+    a.offset = MOST - 1;
     a.kind = JITAMORO_KIND_SKIP_TLS_DESC_CALL;
     REFUSALS(3, 3, 3, 6);
     a.flags = 0;
     REFUSALS(4, 4, 4, 6);
     a.output_kind = 3;
+    return a;
+}
+
+/* The pass's own, and 6. */
+static void order_of_pass(struct asked a) {
+    const uint8_t *end = a.section + MOST;
     REFUSALS(22, 6, 0, 6);
-    a.pass.last = most - 1;
+    a.pass.last = MOST - 1;
     REFUSALS(0, 6, 0, 6); /* the skip */
     a.pass.pending = 0;
     REFUSALS(6, 6, 0, 6);
-    a.offset = most - 2;
-    a.pass.last = most - 3;
+    a.offset = MOST - 2;
+    a.pass.last = MOST - 3;
     a.kind = JITAMORO_KIND_NO_OP;
-    a.pass.window = most - 1;
-    EXPECT(section[most - 1], 0);
+    a.pass.window = MOST - 1;
+    EXPECT(end[-1], 0);
     struct jitamoro_pass pass = a.pass;
-    EXPECT(step(&pass, JITAMORO_R_X86_64_TLSDESC_CALL, a.offset, section, most).relaxed.choice.refusal, 23);
-    EXPECT_PASS(most - 3, most - 1, 0, 0);
-    EXPECT(section[most - 1], 0);
-    a.pass.window = most - 2;
+    EXPECT(step(&pass, JITAMORO_R_X86_64_TLSDESC_CALL, a.offset, a.section, MOST).relaxed.choice.refusal, 23);
+    EXPECT_PASS(MOST - 3, MOST - 1, 0, 0);
+    EXPECT(end[-1], 0);
+    a.pass.window = MOST - 2;
     REFUSALS(0, 0, 0, 0);
-    EXPECT(section[most - 2], 0x66);
-    EXPECT(section[most - 1], 0x90);
-    EXPECT(section[most], 0);
-    EXPECT(jitamoro_fill(28, section, most + 1, UINT64_MAX, 0, 1ull << 40, 0).refusal, 1);
-    EXPECT(jitamoro_fill(11, section, most, most + 1, 0, 1ull << 40, 0).refusal, 2);
-    EXPECT(jitamoro_fill(11, section, most, most - 3, 0, 1ull << 40, 0).refusal, 16);
-    EXPECT(jitamoro_fill(11, section, most, most - 4, 0, 1ull << 40, 0).refusal, 15);
-    EXPECT(jitamoro_fill(11, section, most, most - 4, 0, 0x12345678, 0).filled, true);
-    EXPECT(section[most - 5], 0);
-    EXPECT(section[most - 4], 0x78);
-    EXPECT(section[most - 1], 0x12);
-    EXPECT(section[most], 0);
-    munmap(section, most + 1);
+    EXPECT(end[-2], 0x66);
+    EXPECT(end[-1], 0x90);
+    EXPECT(end[0], 0);
+}
+
+static void order_of_filling(uint8_t *section) {
+    const uint8_t *end = section + MOST;
+    EXPECT(jitamoro_fill(28, section, MOST + 1, UINT64_MAX, 0, 1ull << 40, 0).refusal, 1);
+    EXPECT(jitamoro_fill(11, section, MOST, MOST + 1, 0, 1ull << 40, 0).refusal, 2);
+    EXPECT(jitamoro_fill(11, section, MOST, MOST - 3, 0, 1ull << 40, 0).refusal, 16);
+    EXPECT(jitamoro_fill(11, section, MOST, MOST - 4, 0, 1ull << 40, 0).refusal, 15);
+    EXPECT(jitamoro_fill(11, section, MOST, MOST - 4, 0, 0x12345678, 0).filled, true);
+    EXPECT(end[-5], 0);
+    EXPECT(end[-4], 0x78);
+    EXPECT(end[-1], 0x12);
+    EXPECT(end[0], 0);
+}
+
+/* In sections of the longest length, and one byte more. */
+static void order(void) {
+    EXPECT(MOST, 268435456);
+    /* Pages that nobody touches take no memory. */
+    uint8_t *section = mmap(NULL, MOST + 1, PROT_READ | PROT_WRITE, MAP_PRIVATE | MAP_ANONYMOUS | MAP_NORESERVE, -1, 0);
+    if (section == MAP_FAILED) {
+        perror("interface: mmap");
+        failures++;
+        return;
+    }
+    struct asked a = {
+        .pass = {.last = UINT64_MAX, .window = MOST, .pending = 7, .ended = 255},
+        .section = section, .len = MOST + 1, .offset = UINT64_MAX - 1, .flags = 16, .output_kind = 6,
+        .kind = JITAMORO_KIND_REX_MOV_INDIRECT_TO_ABSOLUTE, .inst_offset = 5,
+    };
+    order_of_pass(order_of_records(a));
+    order_of_filling(section);
+    munmap(section, MOST + 1);
 }
 
 /* A section of no bytes, and the refusals of what takes no section. */
@@ -619,7 +637,7 @@ static void ranges(void) {
 /* ---- Filling a field */
 
 /* What is lent: A5 throughout. */
-struct filling {
+static const struct filling {
     uint32_t r_type;
     size_t len;
     uint64_t offset, address, value;
@@ -627,37 +645,36 @@ struct filling {
     uint8_t refusal;
     bool filled;
     uint8_t bytes[4]; /* of the field, where it is filled */
+} fillings[] = {
+    /* each refusal with all that come after it */
+    {28, 8, 9, 0, UINT64_MAX, 0, JITAMORO_REFUSED_OFFSET, false, {0}},
+    {28, 8, UINT64_MAX, 0, UINT64_MAX, 0, JITAMORO_REFUSED_OFFSET, false, {0}},
+    {28, 8, 8, 0, UINT64_MAX, 0, JITAMORO_REFUSED_TYPE, false, {0}},
+    {10, 8, 5, 0, UINT64_MAX, 0, JITAMORO_REFUSED_FIELD, false, {0}},
+    {10, 0, 0, 0, UINT64_MAX, 0, JITAMORO_REFUSED_FIELD, false, {0}},
+    {10, 8, 4, 0, UINT64_MAX, 0, JITAMORO_REFUSED_VALUE, false, {0}},
+    {11, 8, 4, 0, UINT64_MAX, 0, 0, true, {0xff, 0xff, 0xff, 0xff}},
+    /* the ends of the ranges; 2^63 is read as signed */
+    {10, 8, 2, 0, UINT32_MAX, 0, 0, true, {0xff, 0xff, 0xff, 0xff}},
+    {10, 8, 2, 0, 1ull << 32, 0, JITAMORO_REFUSED_VALUE, false, {0}},
+    {10, 8, 2, 0, 1ull << 63, 0, JITAMORO_REFUSED_VALUE, false, {0}},
+    {11, 8, 2, 0, INT32_MAX, 0, 0, true, {0xff, 0xff, 0xff, 0x7f}},
+    {11, 8, 2, 0, 1ull << 31, 0, JITAMORO_REFUSED_VALUE, false, {0}},
+    {23, 8, 2, 0, (uint64_t)INT32_MIN, 0, 0, true, {0, 0, 0, 0x80}},
+    {23, 8, 2, 0, (uint64_t)INT32_MIN, -1, JITAMORO_REFUSED_VALUE, false, {0}},
+    /* sums that wrap; the address counts for type 2 alone */
+    {10, 8, 1, 7, UINT64_MAX, 5, 0, true, {4, 0, 0, 0}},
+    {2, 8, 1, 7, 3, -4, 0, true, {0xf8, 0xff, 0xff, 0xff}},
+    {2, 8, 1, UINT64_MAX, 0, 0, 0, true, {1, 0, 0, 0}},
+    /* other types, with no look at the rest */
+    {0, 0, 0, 0, UINT64_MAX, 0, 0, false, {0}},
+    {4, 8, 8, 0, 1ull << 40, 0, 0, false, {0}},
+    {25, 8, 0, 0, 1, 0, 0, false, {0}},
 };
 
 static void fills(void) {
-    static const struct filling rows[] = {
-        /* each refusal with all that come after it */
-        {28, 8, 9, 0, UINT64_MAX, 0, JITAMORO_REFUSED_OFFSET, false, {0}},
-        {28, 8, UINT64_MAX, 0, UINT64_MAX, 0, JITAMORO_REFUSED_OFFSET, false, {0}},
-        {28, 8, 8, 0, UINT64_MAX, 0, JITAMORO_REFUSED_TYPE, false, {0}},
-        {10, 8, 5, 0, UINT64_MAX, 0, JITAMORO_REFUSED_FIELD, false, {0}},
-        {10, 0, 0, 0, UINT64_MAX, 0, JITAMORO_REFUSED_FIELD, false, {0}},
-        {10, 8, 4, 0, UINT64_MAX, 0, JITAMORO_REFUSED_VALUE, false, {0}},
-        {11, 8, 4, 0, UINT64_MAX, 0, 0, true, {0xff, 0xff, 0xff, 0xff}},
-        /* the ends of the ranges; 2^63 is read as signed */
-        {10, 8, 2, 0, UINT32_MAX, 0, 0, true, {0xff, 0xff, 0xff, 0xff}},
-        {10, 8, 2, 0, 1ull << 32, 0, JITAMORO_REFUSED_VALUE, false, {0}},
-        {10, 8, 2, 0, 1ull << 63, 0, JITAMORO_REFUSED_VALUE, false, {0}},
-        {11, 8, 2, 0, INT32_MAX, 0, 0, true, {0xff, 0xff, 0xff, 0x7f}},
-        {11, 8, 2, 0, 1ull << 31, 0, JITAMORO_REFUSED_VALUE, false, {0}},
-        {23, 8, 2, 0, (uint64_t)INT32_MIN, 0, 0, true, {0, 0, 0, 0x80}},
-        {23, 8, 2, 0, (uint64_t)INT32_MIN, -1, JITAMORO_REFUSED_VALUE, false, {0}},
-        /* sums that wrap; the address counts for type 2 alone */
-        {10, 8, 1, 7, UINT64_MAX, 5, 0, true, {4, 0, 0, 0}},
-        {2, 8, 1, 7, 3, -4, 0, true, {0xf8, 0xff, 0xff, 0xff}},
-        {2, 8, 1, UINT64_MAX, 0, 0, 0, true, {1, 0, 0, 0}},
-        /* other types, with no look at the rest */
-        {0, 0, 0, 0, UINT64_MAX, 0, 0, false, {0}},
-        {4, 8, 8, 0, 1ull << 40, 0, 0, false, {0}},
-        {25, 8, 0, 0, 1, 0, 0, false, {0}},
-    };
-    for (size_t i = 0; i < COUNT(rows); i++) {
-        const struct filling *r = &rows[i];
+    for (size_t i = 0; i < COUNT(fillings); i++) {
+        const struct filling *r = &fillings[i];
         uint8_t section[8], wanted[8];
         memset(section, 0xa5, sizeof section);
         memset(wanted, 0xa5, sizeof wanted);

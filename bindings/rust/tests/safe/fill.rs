@@ -23,7 +23,7 @@ fn field(relocation_kind: u32, offset_in_section: u64, value: i64) -> Field {
     }
 }
 
-/// Fills a field among bytes A5 and compares the answer and every byte: `bytes` stand at the offset.
+/// Fills a field among bytes A5 and compares the answer and every byte: `written` stands at the offset.
 #[track_caller]
 fn check(field: Field, length: usize, answer: Result<Fill, Refusal>, written: &[u8]) {
     let mut section = vec![0xa5; length];

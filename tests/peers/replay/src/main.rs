@@ -10,7 +10,6 @@ mod fill;
 mod port;
 mod verdict;
 
-use case::Case;
 use counts::Counts;
 use std::process::ExitCode;
 
@@ -26,6 +25,14 @@ fn record(text: &str) {
     }
 }
 
+fn by_type(filled: [usize; 4]) -> String {
+    let counts = fill::FILLED_TYPES.iter().zip(filled);
+    let counts: Vec<_> = counts
+        .map(|(it, count)| format!("{count} of type {it}"))
+        .collect();
+    counts.join(", ")
+}
+
 fn compare(text: &str, table: bool) -> ExitCode {
     let (mut counts, mut cases, mut differ) = (Counts::default(), 0, 0);
     for line in text.lines().filter(|line| !line.starts_with('#')) {
@@ -36,18 +43,10 @@ fn compare(text: &str, table: bool) -> ExitCode {
         let now = verdict::verdict(&case);
         cases += case.peers.len();
         if now != case.recorded {
-            let Case {
-                name,
-                kind,
-                peers,
-                recorded,
-                ..
-            } = &case;
-            println!(
-                "{name} {kind} {}: {now}, recorded {recorded}",
-                peers.join(",")
-            );
-            differ += peers.len();
+            let (name, kind, recorded) = (&case.name, &case.kind, &case.recorded);
+            let peers = case.peers.join(",");
+            println!("{name} {kind} {peers}: {now}, recorded {recorded}");
+            differ += case.peers.len();
         }
         counts.add(&case, now);
     }
@@ -57,14 +56,10 @@ fn compare(text: &str, table: bool) -> ExitCode {
         counts.print()
     }
     let filled = fill::counts();
-    let types = fill::FILLED_TYPES.iter().zip(filled);
-    let types: Vec<_> = types
-        .map(|(it, count)| format!("{count} of type {it}"))
-        .collect();
     println!(
         "peers: {cases} cases, {} verdicts as recorded, {differ} differ; fields filled by the port: {}",
         cases - differ,
-        types.join(", ")
+        by_type(filled)
     );
     if differ == 0 && cases > 0 && !filled.contains(&0) {
         ExitCode::SUCCESS

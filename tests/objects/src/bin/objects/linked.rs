@@ -126,27 +126,27 @@ impl Comparison {
         self.compare_bytes("pass", linked, [&port.bytes, &plain.bytes], &rust.bytes);
         let port_end = jitamoro::sys::jitamoro_pass_end(&mut port.pass);
         let rust_end = pass::end(&mut rust.pass);
-        self.compare(
-            (port_end, port.pass, port_tally),
-            (rust_end, rust.pass, rust_tally),
-            || {
-                format!(
-                    "end of the pass, {}, {}",
-                    linked.object, linked.section.name
-                )
-            },
-        );
+        let (port_after, rust_after) = ((port.pass, port_tally), (rust.pass, rust_tally));
+        self.compare((port_end, port_after), (rust_end, rust_after), || {
+            let (object, section) = (linked.object, &linked.section.name);
+            format!("end of the pass, {object}, {section}")
+        });
         let output_kind = linked.records[0].output_kind;
         self.tally.count_end(output_kind, rust_end);
-        for field in &fields {
-            let port_filled = field.port_fill(&mut port.bytes);
-            let rust_filled = fill::fill(field, &mut rust.bytes).answer;
+        self.fill_fields(linked, &fields, &mut port.bytes, &mut rust.bytes);
+    }
+
+    /// Fills the fields that a pass left.
+    fn fill_fields(&mut self, linked: &Linked, fields: &[Field], port: &mut [u8], rust: &mut [u8]) {
+        for field in fields {
+            let port_filled = field.port_fill(port);
+            let rust_filled = fill::fill(field, rust).answer;
             self.compare(port_filled, rust_filled, || {
                 let place = place(linked.object, linked.section, field.offset);
                 format!("filling after a pass, {place}, {field:?}")
             });
         }
-        self.compare_bytes("filling", linked, [&port.bytes], &rust.bytes);
+        self.compare_bytes("filling", linked, [port], rust);
     }
 
     /// Whole sections, one or two of the port; the first byte that differs is shown.

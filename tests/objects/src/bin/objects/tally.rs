@@ -136,27 +136,13 @@ impl Tally {
         for (r_type, counts) in types {
             println!("| {r_type} | {} | {} |", type_name(r_type), counts[0]);
         }
-        print_head("Type | R_X86_64_ | Outcome");
-        for (&(r_type, outcome), counts) in &self.steps {
-            let name = type_name(r_type);
-            print_row(
-                &format!("{r_type} | {name} | {}", outcome_name(outcome)),
-                counts,
-            );
-        }
+        print_by_type("Type | R_X86_64_ | Outcome", &self.steps);
         print_head("All types");
         for (outcome, counts) in outcomes {
             print_row(&outcome_name(outcome), &counts);
         }
         print_row("records", &all);
-        print_head("Field's type | R_X86_64_ | Filling");
-        for (&(r_type, outcome), counts) in &self.fields {
-            let name = type_name(r_type);
-            print_row(
-                &format!("{r_type} | {name} | {}", outcome_name(outcome)),
-                counts,
-            );
-        }
+        print_by_type("Field's type | R_X86_64_ | Filling", &self.fields);
         print_head("End of a section's pass");
         for (&refusal, counts) in &self.ends {
             let name = if refusal == 0 {
@@ -167,6 +153,17 @@ impl Tally {
             print_row(&name, counts);
         }
         println!();
+    }
+}
+
+fn print_by_type(head: &str, rows: &BTreeMap<(u32, Outcome), Counts>) {
+    print_head(head);
+    for (&(r_type, outcome), counts) in rows {
+        let name = type_name(r_type);
+        print_row(
+            &format!("{r_type} | {name} | {}", outcome_name(outcome)),
+            counts,
+        );
     }
 }
 
