@@ -25,7 +25,6 @@ use libwild::oracle::RelocationSize;
 use libwild::oracle::ValueFlags;
 use std::hint::black_box;
 use std::slice;
-use std::time::Duration;
 
 /// Fields of a run, and the bytes that each has.
 const FIELDS: usize = 1 << 13;
@@ -139,39 +138,41 @@ fn fields(from: &[u32]) -> Fields {
     }
 }
 
-fn fill_all<T>(function: Fill<T>, it: &mut Fields, calls: usize) -> Duration {
+fn fill_each<T>(function: Fill<T>, it: &mut Fields, calls: usize) {
     let function = black_box(function);
-    elapsed(|| {
-        for (field, share) in it.fields[..calls].iter().zip(it.bytes.chunks_mut(SHARE)) {
-            // SAFETY: a whole section, by its pointer and length.
-            black_box(&unsafe {
-                function(
-                    field.r_type,
-                    share.as_mut_ptr(),
-                    SHARE,
-                    field.offset,
-                    field.address,
-                    field.value,
-                    field.addend,
-                )
-            });
-        }
-        black_box(&mut it.bytes);
-    })
+    for (field, share) in it.fields[..calls].iter().zip(it.bytes.chunks_mut(SHARE)) {
+        // SAFETY: a whole section, by its pointer and length.
+        black_box(&unsafe {
+            function(
+                field.r_type,
+                share.as_mut_ptr(),
+                SHARE,
+                field.offset,
+                field.address,
+                field.value,
+                field.addend,
+            )
+        });
+    }
+    black_box(&mut it.bytes);
+}
+
+fn same_fields(from: &[u32]) -> Fields {
+    let (mut port, mut rust) = (fields(from), fields(from));
+    fill_each(sys::jitamoro_fill as Fill<FilledAnswer>, &mut port, FIELDS);
+    fill_each(rust_fill, &mut rust, FIELDS);
+    assert!(port.bytes == rust.bytes, "filling leaves other bytes");
+    fields(from)
 }
 
 pub fn time_fields(driver: &Driver) {
     let time = |name: &str, from: &[u32]| {
-        let (mut port, mut rust) = (fields(from), fields(from));
-        fill_all::<FilledAnswer>(sys::jitamoro_fill, &mut port, FIELDS);
-        fill_all(rust_fill, &mut rust, FIELDS);
-        assert!(port.bytes == rust.bytes, "filling leaves other bytes");
         driver.case(
             &format!("fill, {name}"),
             RUNS,
-            || fields(from),
-            |it, calls| fill_all::<FilledAnswer>(sys::jitamoro_fill, it, calls),
-            |it, calls| fill_all(rust_fill, it, calls),
+            || same_fields(from),
+            |it, calls| elapsed(|| fill_each(sys::jitamoro_fill as Fill<FilledAnswer>, it, calls)),
+            |it, calls| elapsed(|| fill_each(rust_fill, it, calls)),
         );
     };
     for (r_type, name) in FILLED_TYPES
