@@ -3,7 +3,7 @@
 ghost use Rattle.std.specs.Prelude.{◌≡◌, ◌+◌, ◌%◌, ◌^◌, ◌<◌, length, if◌then◌else◌};
 ghost use Rattle.hex_lines.specs.Hex.{digit_of, byte_at, bytes_from, four_at, eight_at, Says};
 
-use libc::STDOUT_FILENO;
+const STDOUT_FILENO: i32 = 1;
 
 // The value of a hexadecimal digit, or 0.
 fn digit(b: u8) -> u8

@@ -1,6 +1,7 @@
 // The case program: reads a case file from standard input, relaxes each record alone, and prints a
 // line for each. At most 65,536 bytes are read.
-use libc::{STDIN_FILENO, STDOUT_FILENO};
+const STDIN_FILENO: i32 = 0;
+const STDOUT_FILENO: i32 = 1;
 
 fn main() {
     let mut file = io::large_buffer();

@@ -21,11 +21,12 @@ use elf::{AllowedRange, ByteWidth, DynamicRelocationKind, Sign};
 use elf_fill::Filling;
 use elf_x86_64_plt::PltEntry;
 use hex_lines::{byte, more, print_count, u32_at, u64_at};
-use libc::STDIN_FILENO;
 use output_kind::{OutputKind, OutputKindFound};
 use rules::Field;
 use value_flags::{ValueFlags, ValueFlagsFound};
 use x86_64_types::RelocationFound;
+
+const STDIN_FILENO: i32 = 0;
 
 fn flag(b: bool) -> u8 {
     if b { 1 } else { 0 }

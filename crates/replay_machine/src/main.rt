@@ -6,8 +6,9 @@
 ghost use Rattle.std.specs.Prelude.{◌<◌};
 
 use hex_lines::{byte, more, print_count, u64_at};
-use libc::STDIN_FILENO;
 use machine_step::Flags;
+
+const STDIN_FILENO: i32 = 0;
 
 // The sixteen registers from byte `at` on, and sixteen that are 0.
 fn registers(line: &[u8], at: usize) -> [u64; 32]

@@ -11,9 +11,10 @@
 use answers::{ChoiceAnswer, RelaxedAnswer};
 use elf_x86_64_relaxation::{Choice, Relaxation};
 use hex_lines::{byte, more, print_count, u32_at, u64_at};
-use libc::STDIN_FILENO;
 use rules::Relocation;
 use x86_64_kind::RelaxationKind;
+
+const STDIN_FILENO: i32 = 0;
 
 fn record_at(line: &[u8]) -> Relocation {
     Relocation {

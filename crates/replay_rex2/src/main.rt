@@ -2,7 +2,8 @@
 // A line has 17 bytes in hexadecimal: operation (0 mov, 1 add, 2 sub, 3 cmp, 4 lea), source (0 slot, 1 immediate, 2 address),
 // width (1 is 64 bits), register, length, and the encoding (12 bytes, the rest 0), whose field is 0x11223344.
 use hex_lines::{byte, more, print_count};
-use libc::STDIN_FILENO;
+
+const STDIN_FILENO: i32 = 0;
 
 fn encoding(line: &[u8]) -> [u8; 12] {
     let mut code = [0u8; 12];

@@ -379,7 +379,7 @@ fn write(section_bytes: &mut [u8], at: usize, fixed: &[u8])
     requires { at + length fixed.now ≤ length section_bytes.old }
     ensures { section_bytes.new ≡ sets section_bytes.old at fixed.now }
 {
-    bytes::copy(fixed, &mut section_bytes[at..]);
+    section_bytes[at..at + fixed.len()].copy_from_slice(fixed);
 }
 
 // ---- The register's bits
