@@ -2,7 +2,7 @@
 ghost use Rattle.std.specs.Prelude.{◌≡◌};
 ghost use Rattle.elf_kind.specs.Kind.{kind_number};
 
-#[derive(Drop)]
+#[derive(Clone, Copy)]
 pub enum RelocationKind {
     // The absolute address of a symbol or section.
     Absolute,
