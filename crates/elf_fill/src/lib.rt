@@ -13,7 +13,7 @@ use elf::RelocationKindInfo;
 use rules::Field;
 use x86_64_types::RelocationFound;
 
-#[derive(Drop)]
+#[derive(Clone, Copy)]
 pub enum Filling {
     Nothing,
     Done,

@@ -8,7 +8,7 @@ ghost use Rattle.elf_x86_64_plt.specs.Plt.{entry_answer};
 
 use elf::{AllowedRange, ByteWidth, Sign};
 
-#[derive(Drop)]
+#[derive(Clone, Copy)]
 pub enum PltEntry {
     Written,
     Refused(u8),

@@ -10,7 +10,7 @@ ghost use Rattle.x86_64_types.specs.Types.{found_of};
 use x86_64_kind::{RelaxationKind, RelocationModifier, Window};
 use x86_64_types::RelocationFound;
 
-#[derive(Drop)]
+#[derive(Clone, Copy)]
 pub struct Relaxation {
     pub kind: RelaxationKind,
     // The Rust keeps the row of this type, `rel_info`.
@@ -18,7 +18,7 @@ pub struct Relaxation {
     pub mandatory: bool,
 }
 
-#[derive(Drop)]
+#[derive(Clone, Copy)]
 pub enum Choice {
     Nothing,
     Chosen(Relaxation),
