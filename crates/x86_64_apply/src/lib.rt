@@ -15,13 +15,13 @@ ghost use Rattle.x86_64_apply.specs.Apply.{applied_of, Ready, attempted};
 use x86_64_kind::{RelaxationKind, Shape};
 
 // Where the field lies now, and its addend.
-#[derive(Drop)]
+#[derive(Clone, Copy)]
 pub struct Moved {
     pub offset: u64,
     pub addend: i64,
 }
 
-#[derive(Drop)]
+#[derive(Clone, Copy)]
 pub enum Applied {
     Done(Moved),
     Refused(u8),
