@@ -47,6 +47,7 @@ impl Relaxation {
     }
 
     // Whether the new type's kind is Absolute.
+    #[tactic(auto, using(rules::proofs::Records::fallback_worked), unfolding(rules::specs::Choose::needs_fallback))]
     pub fn needs_got_fallback(self) -> bool
         ensures value { result ≡ needs_fallback self.new_type }
         ensures fallback_worked { FallbackWorked }
@@ -61,6 +62,7 @@ impl Relaxation {
     }
 
     // The window that relaxing and a pass claim.
+    #[tactic(auto, unfolding(rules::specs::Rewrite::claims))]
     pub fn claim(self) -> Window
         ensures { result ≡ claims self.kind self.new_type }
     {
