@@ -1,4 +1,6 @@
 // elf.rs: RelocationKind, the sixteen that x86-64 uses, in the Rust's order.
+#![tactic(auto)]
+
 ghost use Rattle.std.specs.Prelude.{◌≡◌};
 ghost use Rattle.elf_kind.specs.Kind.{kind_number};
 

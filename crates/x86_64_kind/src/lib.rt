@@ -1,5 +1,7 @@
 // x86_64.rs: RelaxationKind, with its numbers of document 01 and what 'Rewriting' says of each kind but its
 // bytes; relaxation.rs: RelocationModifier.
+#![tactic(auto)]
+
 ghost use Rattle.std.specs.Prelude.{◌≡◌};
 ghost use Rattle.x86_64_kind.specs.Kinds.{inside, shape, shape_of, allowed, allows, skips, is_skip, numbered};
 ghost use Rattle.x86_64_kind.specs.declared.RelaxationKind.TheVariants.{RexAddIndirectToAbsolute};
