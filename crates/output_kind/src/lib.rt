@@ -1,4 +1,6 @@
 // output_kind.rs: the six output kinds, and the four predicates that document 01's rules use.
+#![tactic(auto)]
+
 ghost use Rattle.std.specs.Prelude.{◌≡◌};
 ghost use Rattle.rules.specs.Record.{output_kind_of, is_f, is_s, is_e, is_p};
 ghost use Rattle.output_kind.specs.Output.{output_number, output_answer, fixed, independent};

@@ -1,5 +1,7 @@
 // Document 01 as definitions in specs/: the rules, the machine, and same meaning; the theorems about them stand in
 // proofs/. No code here chooses, rewrites or relaxes: the crates above state their promises with these definitions.
+#![tactic(auto)]
+
 ghost use Rattle.std.specs.Prelude.{◌≡◌, List, ℕ};
 ghost use Rattle.rules.specs.Record.{link_limit};
 ghost use Rattle.rules.specs.Meaning.{SameMeaning};
