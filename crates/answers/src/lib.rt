@@ -12,7 +12,7 @@ use x86_64_apply::Applied;
 // takes few stores. C and Rust have a field for each of the seven, at the same places: there the struct ends after
 // `new_type`, 4 bytes earlier, which shows neither in two registers nor before the offset of `RelaxedAnswer`.
 #[repr(C)]
-#[derive(Drop)]
+#[derive(Clone, Copy)]
 pub struct ChoiceAnswer {
     pub head: u64,
     pub new_type: u32,
@@ -20,7 +20,7 @@ pub struct ChoiceAnswer {
 
 // Where the field lies after rewriting, and its addend.
 #[repr(C)]
-#[derive(Drop)]
+#[derive(Clone, Copy)]
 pub struct MovedAnswer {
     pub refusal: u8,
     pub offset: u64,
@@ -29,7 +29,7 @@ pub struct MovedAnswer {
 
 // A choice that was carried out, with where the field lies now. Refusals stand in the choice.
 #[repr(C)]
-#[derive(Drop)]
+#[derive(Clone, Copy)]
 pub struct RelaxedAnswer {
     pub choice: ChoiceAnswer,
     pub offset: u64,

@@ -244,7 +244,7 @@ fn put_case(out: &mut [u8], at: usize, number: u64, file: &[u8], case: Case) -> 
 }
 
 // The place after a record, and where its text ends.
-#[derive(Drop)]
+#[derive(Clone, Copy)]
 struct Next {
     place: usize,
     at: usize,

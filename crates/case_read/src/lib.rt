@@ -1,4 +1,6 @@
 // The case file of document 01: reading the record at a place.
+#![tactic(auto)]
+
 ghost use Rattle.std.specs.Prelude.{◌≡◌, ◌+◌, ◌≤◌, length, take, drop};
 ghost use Rattle.case_read.specs.Reading.{number, case_at, read_at};
 
@@ -25,6 +27,7 @@ pub enum Read {
 }
 
 // The record at a place of a file. Refusals 11, 10, 12, 13, 11.
+#[tactic(auto, unfolding(crate::specs::Reading::read_at))]
 pub fn read_at(file: &[u8], at: usize) -> Read
     ensures { result ≡ read_at file.now at }
 {

@@ -8,13 +8,13 @@ ghost use Rattle.elf.specs.Elf.{range_of, range_from, width_of, sign_of, dynamic
 
 use elf_kind::RelocationKind;
 
-#[derive(Drop)]
+#[derive(Clone, Copy)]
 pub enum Sign {
     Signed,
     Unsigned,
 }
 
-#[derive(Drop)]
+#[derive(Clone, Copy)]
 pub enum DynamicRelocationKind {
     Copy,
     Irelative,
@@ -29,6 +29,7 @@ pub enum DynamicRelocationKind {
 }
 
 impl DynamicRelocationKind {
+    #[tactic(auto, using(rules::proofs::Psabi::dynamic_names))]
     pub fn x86_64_r_type(self) -> u32
         ensures value { result ≡ dynamic_type (dynamic_number self) }
         ensures dynamic_names { DynamicNames }
@@ -49,7 +50,7 @@ impl DynamicRelocationKind {
 }
 
 // The Rust's `RelocationSize::ByteSize(n)`, the only form that x86-64 uses.
-#[derive(Drop)]
+#[derive(Clone, Copy)]
 pub struct RelocationSize {
     pub byte_size: u8,
 }
@@ -57,7 +58,7 @@ pub struct RelocationSize {
 // Allowed range (half-open) of a computed value of a relocation. Where it isn't checked, every
 // value is allowed (the Rust's `no_check` leaves out i64::MAX, docs/DIFFERENCES.md), and the ends
 // are 0.
-#[derive(Drop)]
+#[derive(Clone, Copy)]
 pub struct AllowedRange {
     pub checked: bool,
     pub min: i64,
@@ -65,7 +66,7 @@ pub struct AllowedRange {
 }
 
 // The widths of a field that `from_byte_size` is used at.
-#[derive(Drop)]
+#[derive(Clone, Copy)]
 pub enum ByteWidth {
     One,
     Two,
@@ -124,6 +125,7 @@ impl AllowedRange {
 }
 
 // The Rust's `value as i64` of a u64.
+#[tactic(auto, unfolding(rules::specs::Range::signed64))]
 pub fn as_i64(value: u64) -> i64
     ensures { result ≡ signed64 value }
 {
@@ -159,7 +161,7 @@ pub fn write_low_first(value: u64, output: &mut [u8])
     }
 }
 
-#[derive(Drop)]
+#[derive(Clone, Copy)]
 pub struct RelocationKindInfo {
     pub kind: RelocationKind,
     pub size: RelocationSize,

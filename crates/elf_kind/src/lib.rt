@@ -1,8 +1,10 @@
 // elf.rs: RelocationKind, the sixteen that x86-64 uses, in the Rust's order.
+#![tactic(auto)]
+
 ghost use Rattle.std.specs.Prelude.{◌≡◌};
 ghost use Rattle.elf_kind.specs.Kind.{kind_number};
 
-#[derive(Drop)]
+#[derive(Clone, Copy)]
 pub enum RelocationKind {
     // The absolute address of a symbol or section.
     Absolute,

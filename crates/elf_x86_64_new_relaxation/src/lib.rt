@@ -29,7 +29,7 @@ const REX_W_R: u8 = 0x4c;
 const REX2_PREFIX: u8 = 0xd5;
 
 // A record with its numbers read.
-#[derive(Drop)]
+#[derive(Clone, Copy)]
 struct Asked {
     r_type: u32,
     offset: usize,

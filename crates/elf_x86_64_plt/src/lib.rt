@@ -8,7 +8,7 @@ ghost use Rattle.elf_x86_64_plt.specs.Plt.{entry_answer};
 
 use elf::{AllowedRange, ByteWidth, Sign};
 
-#[derive(Drop)]
+#[derive(Clone, Copy)]
 pub enum PltEntry {
     Written,
     Refused(u8),
@@ -49,9 +49,7 @@ fn write_template(plt_entry: &mut [u8])
     requires { length plt_entry.old ≡ 16 }
     ensures { plt_entry.new ≡ template }
 {
-    plt_entry.copy_from_slice(
-        b"\xf3\x0f\x1e\xfa\xff\x25\x00\x00\x00\x00\x66\x0f\x1f\x44\x00\x00",
-    );
+    plt_entry.copy_from_slice(b"\xf3\x0f\x1e\xfa\xff\x25\x00\x00\x00\x00\x66\x0f\x1f\x44\x00\x00");
 }
 
 // From the end of the jump at byte 10 of the entry to the GOT entry.

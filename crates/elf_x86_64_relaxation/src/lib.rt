@@ -10,7 +10,7 @@ ghost use Rattle.x86_64_types.specs.Types.{found_of};
 use x86_64_kind::{RelaxationKind, RelocationModifier, Window};
 use x86_64_types::RelocationFound;
 
-#[derive(Drop)]
+#[derive(Clone, Copy)]
 pub struct Relaxation {
     pub kind: RelaxationKind,
     // The Rust keeps the row of this type, `rel_info`.
@@ -18,7 +18,7 @@ pub struct Relaxation {
     pub mandatory: bool,
 }
 
-#[derive(Drop)]
+#[derive(Clone, Copy)]
 pub enum Choice {
     Nothing,
     Chosen(Relaxation),
@@ -47,6 +47,7 @@ impl Relaxation {
     }
 
     // Whether the new type's kind is Absolute.
+    #[tactic(auto, using(rules::proofs::Records::fallback_worked), unfolding(rules::specs::Choose::needs_fallback))]
     pub fn needs_got_fallback(self) -> bool
         ensures value { result ≡ needs_fallback self.new_type }
         ensures fallback_worked { FallbackWorked }
@@ -61,6 +62,7 @@ impl Relaxation {
     }
 
     // The window that relaxing and a pass claim.
+    #[tactic(auto, unfolding(rules::specs::Rewrite::claims))]
     pub fn claim(self) -> Window
         ensures { result ≡ claims self.kind self.new_type }
     {

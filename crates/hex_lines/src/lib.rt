@@ -1,11 +1,14 @@
 // Lines of hexadecimal digits, as the replay programs read them: two small letters or digits to a
 // byte, numbers low byte first; and the counts that those programs print.
+#![tactic(auto)]
+
 ghost use Rattle.std.specs.Prelude.{◌≡◌, ◌+◌, ◌%◌, ◌^◌, ◌<◌, length, if◌then◌else◌};
 ghost use Rattle.hex_lines.specs.Hex.{digit_of, byte_at, bytes_from, four_at, eight_at, Says};
 
 const STDOUT_FILENO: i32 = 1;
 
 // The value of a hexadecimal digit, or 0.
+#[tactic(auto, unfolding(crate::specs::Hex::digit_of))]
 fn digit(b: u8) -> u8
     ensures { (result ≡ digit_of b) × (result < 16) }
 {
@@ -23,6 +26,7 @@ fn digit(b: u8) -> u8
 }
 
 // Byte `at` of a line, or 0 past its end.
+#[tactic(auto, unfolding(crate::specs::Hex::byte_at))]
 pub fn byte(line: &[u8], at: usize) -> u8
     ensures { result ≡ byte_at line.now at }
 {
@@ -34,6 +38,7 @@ pub fn byte(line: &[u8], at: usize) -> u8
 }
 
 // Byte `at + k` of a line.
+#[tactic(auto, using(crate::proofs::Past::byte_past))]
 fn byte_from(line: &[u8], at: usize, k: usize) -> u8
     requires { k < 2 ^ 63 }
     ensures { result ≡ byte_at line.now (at + k) }
@@ -55,6 +60,7 @@ pub fn u32_at(line: &[u8], at: usize) -> u32
 }
 
 // The eight bytes from `at` on, as a number.
+#[tactic(auto, using(crate::proofs::Past::eight_past))]
 pub fn u64_at(line: &[u8], at: usize) -> u64
     ensures { result ≡ eight_at line.now at }
 {

@@ -12,7 +12,7 @@ use rules::Field;
 
 // A refusal or 0, and whether the field was filled: not under a refusal, nor where the type is another one.
 #[repr(C)]
-#[derive(Drop)]
+#[derive(Clone, Copy)]
 pub struct FilledAnswer {
     pub refusal: u8,
     pub filled: bool,

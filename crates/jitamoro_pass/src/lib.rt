@@ -21,7 +21,7 @@ use rules::Relocation;
 
 // Last offset, end of the last window, pending, ended: the caller's four words.
 #[repr(C)]
-#[derive(Drop)]
+#[derive(Clone, Copy)]
 pub struct PassWords {
     pub last: u64,
     pub window: u64,
@@ -32,7 +32,7 @@ pub struct PassWords {
 // Whether the record was skipped, and what relaxing answered. A refusal stands in `relaxed`. C and Rust have a bool, at
 // the first byte of `skipped`; it is a number here, so that no padding is copied.
 #[repr(C)]
-#[derive(Drop)]
+#[derive(Clone, Copy)]
 pub struct StepAnswer {
     pub skipped: u64,
     pub relaxed: RelaxedAnswer,

@@ -15,7 +15,7 @@ use value_flags::{ValueFlags, ValueFlagsFound};
 use x86_64_types::RelocationFound;
 
 #[repr(C)]
-#[derive(Drop)]
+#[derive(Clone, Copy)]
 pub struct OutputKindAnswer {
     pub refusal: u8,
     pub is_executable: bool,
@@ -48,7 +48,7 @@ pub extern "C" fn jitamoro_output_kind(number: u8) -> OutputKindAnswer
 }
 
 #[repr(C)]
-#[derive(Drop)]
+#[derive(Clone, Copy)]
 pub struct ValueFlagsAnswer {
     pub refusal: u8,
     pub is_dynamic: bool,
@@ -86,7 +86,7 @@ pub extern "C" fn jitamoro_value_flags(number: u8) -> ValueFlagsAnswer
 // `kind` is the kind's place among the sixteen of RelocationKind. Where `checked` is false every
 // value is allowed, and `min` and `max` are 0.
 #[repr(C)]
-#[derive(Drop)]
+#[derive(Clone, Copy)]
 pub struct RelocationAnswer {
     pub refusal: u8,
     pub kind: u8,

@@ -3,7 +3,7 @@ use Rattle.std.proofs.Common.{◌≡◌, ℕ, ◌+◌, ◌-◌, ◌*◌, ◌/◌
 use borrow.Author.Tests.{lt-leb, eqb-false}
 use Rattle.rules.specs.Range.{bit}
 use Rattle.rules.proofs.Arith.{read8-low}
-use Rattle.rules.specs.Machine.{Result, Op, add, sub, Source, slot, imm, addr, nowhere, into, Action, bad, move, alu, call, jump, Form, form, Flags, size, read4, read8, put, by_digit, via_rip, on_register, opcode, decode, rip_relative, is_set}
+use Rattle.rules.specs.Machine.{Result, Op, add, sub, Source, slot, imm, addr, nowhere, into, Action, bad, move, alu, call, jump, Form, form, size, read4, read8, put, by_digit, via_rip, on_register, opcode, decode, rip_relative, is_set}
 use Rattle.machine_step.specs.Twin.{source_number, source_of, is_sub, op_of, layout, action_of, Small, Tidy, Answers}
 use Rattle.machine_step.specs.declared.Flags as declared
 use Rattle.machine_step.specs.declared.Form as laid

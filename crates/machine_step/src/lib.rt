@@ -1,5 +1,7 @@
 // The machine of rules/specs/Machine.antt as a function: one instruction on plain values, equal to the
 // definition for every input. It exists so that the definition can be tried on a CPU's own steps.
+#![tactic(auto)]
+
 ghost use Rattle.std.specs.Prelude.{◌≡◌, ℕ, ◌+◌, ◌-◌, ◌*◌, ◌/◌, ◌%◌, ◌^◌, ◌<◌, ◌≤◌, true, false, [], ◌∷◌, slice_index};
 ghost use Rattle.rules.specs.Machine as machine;
 ghost use Rattle.machine_step.specs.Twin.{flat, layout, source_number, op_of, source_of, target_of, action_of, flags_of, state_by, state_of, answer_of, stopped, Tidy, Answers, Small, from_slot, SlotHolds, code_slot, CodeSlotHolds};
@@ -84,6 +86,7 @@ fn lay(
 }
 
 // The operations on register k by their digits: add, sub, and cmp, which is sub without a target.
+#[tactic(auto, unfolding(rules::specs::Machine::by_digit))]
 fn by_digit(wide: bool, k: u8, source: u8, digit: u8, long: u8) -> Form
     ensures { (f : machine.Source) → source ≡ source_number f → result ≡ layout (machine.form (machine.by_digit wide k f digit) long) }
 {
@@ -96,6 +99,7 @@ fn by_digit(wide: bool, k: u8, source: u8, digit: u8, long: u8) -> Form
 }
 
 // Opcode o with a RIP-relative operand, on register k or with digit n.
+#[tactic(auto, unfolding(rules::specs::Machine::via_rip))]
 fn via_rip(wide: bool, o: u8, k: u8, n: u8, long: u8) -> Form
     ensures { result ≡ layout (machine.form (machine.via_rip wide o k n) long) }
 {
@@ -120,6 +124,7 @@ fn via_rip(wide: bool, o: u8, k: u8, n: u8, long: u8) -> Form
 }
 
 // Opcode o with digit n on register k.
+#[tactic(auto, unfolding(rules::specs::Machine::on_register))]
 fn on_register(wide: bool, o: u8, k: u8, n: u8, long: u8) -> Form
     ensures { result ≡ layout (machine.form (machine.on_register wide o k n) long) }
 {
@@ -135,6 +140,7 @@ fn on_register(wide: bool, o: u8, k: u8, n: u8, long: u8) -> Form
 }
 
 // Opcode o with ModRM m, after p prefix bytes with W and the high parts of the register numbers.
+#[tactic(auto, unfolding(rules::specs::Machine::opcode))]
 fn opcode(p: u8, wide: bool, high_r: u8, high_b: u8, rel: bool, o: u8, m: u8) -> Form
     requires { (p ≤ 2) × (high_r ≤ 24) × (high_b ≤ 24) }
     ensures { result ≡ layout (machine.opcode p wide high_r high_b rel o m) }
@@ -159,6 +165,7 @@ fn opcode(p: u8, wide: bool, high_r: u8, high_b: u8, rel: bool, o: u8, m: u8) ->
 }
 
 // The form that four bytes begin.
+#[tactic(auto, unfolding(rules::specs::Machine::decode))]
 fn prefixed(b0: u8, b1: u8, b2: u8, b3: u8) -> Form
     ensures { result ≡ layout (machine.decode (b0 ∷ b1 ∷ b2 ∷ b3 ∷ [])) }
 {
@@ -199,6 +206,7 @@ fn byte_at(code: &[u8], i: usize) -> u8
 }
 
 // The form that begins a code.
+#[tactic(auto, using(crate::proofs::Laws::four))]
 pub fn decode(code: &[u8]) -> Form
     ensures { result ≡ layout (machine.decode code.now) }
 {
@@ -220,6 +228,7 @@ fn low(wide: bool, x: u64) -> u64
     x % 0x1_0000_0000
 }
 
+#[tactic(auto, unfolding(rules::specs::Machine::even_parity))]
 fn parity(x: u64) -> bool
     ensures { result ≡ machine.even_parity x }
 {
@@ -228,6 +237,7 @@ fn parity(x: u64) -> bool
     bits % 2 == 0
 }
 
+#[tactic(auto, unfolding(rules::specs::Machine::negative))]
 fn negative(wide: bool, x: u64) -> bool
     ensures { result ≡ machine.negative wide x }
 {
@@ -238,6 +248,7 @@ fn negative(wide: bool, x: u64) -> bool
 }
 
 // A field of four bytes read as signed, modulo 2^64.
+#[tactic(auto, unfolding(rules::specs::Machine::signed32))]
 fn signed32(d: u64) -> u64
     requires { d < 2 ^ 32 }
     ensures { result ≡ machine.signed32 d }
@@ -257,6 +268,7 @@ fn relative(next: u64, field: u64) -> u64
 }
 
 // The operand, with the field and the address after the instruction.
+#[tactic(auto, using(crate::proofs::Laws::loads))]
 fn operand(source: u8, wide: bool, slot: u64, field: u64, next: u64) -> u64
     requires { field < 2 ^ 32 }
     ensures next_value { (s : machine.State) → (from_slot (source_of source) ≡ true → machine.read8 s.mem ((next + machine.signed32 field) % machine.word) ≡ slot) → machine.operand (source_of source) wide s field next ≡ result }
@@ -269,6 +281,7 @@ fn operand(source: u8, wide: bool, slot: u64, field: u64, next: u64) -> u64
     }
 }
 
+#[tactic(auto, using(crate::proofs::Laws::put_set))]
 fn put(regs: [u64; 32], k: u8, v: u64) -> [u64; 32]
     requires { k < 32 }
     ensures { machine.put (λ i. slice_index regs i) k v ≡ (λ i. slice_index result i) }
@@ -307,6 +320,7 @@ struct Outcome {
     flags: Flags,
 }
 
+#[tactic(auto, using(crate::proofs::Laws::sums, crate::proofs::Laws::differs, crate::proofs::Laws::carries), unfolding(rules::specs::Machine::result, rules::specs::Machine::same_sign, rules::specs::Machine::flags_after))]
 fn operate(sub: bool, wide: bool, a: u64, b: u64) -> Outcome
     requires { (a < machine.size wide) × (b < machine.size wide) }
     ensures value_value { result.value ≡ machine.result (op_of sub) wide a b }
@@ -357,6 +371,7 @@ fn go(next: u64, regs: [u64; 32], flags: Flags) -> Stepped
 }
 
 // An operation on the operands a and b.
+#[tactic(auto, using(crate::proofs::Laws::answers), unfolding(rules::specs::Machine::exec))]
 fn exec(
     sub: bool,
     wide: bool,
@@ -381,6 +396,7 @@ fn exec(
 }
 
 // A call: next is pushed at rsp - 8.
+#[tactic(auto, using(crate::proofs::Laws::falls), unfolding(rules::specs::Machine::push))]
 fn call(next: u64, to: u64, regs: [u64; 32], flags: Flags) -> Stepped
     ensures { Answers (λ m. machine.stepped (machine.push next (state_of regs flags m)) to) result }
 {
@@ -398,6 +414,7 @@ fn call(next: u64, to: u64, regs: [u64; 32], flags: Flags) -> Stepped
 }
 
 // What an action does, with the field, the address after the instruction and what its slot holds.
+#[tactic(auto, using(crate::proofs::Laws::tidy))]
 fn perform(form: Form, field: u64, next: u64, slot: u64, regs: [u64; 32], flags: Flags) -> Stepped
     requires { Small form × (field < 2 ^ 32) }
     ensures by_index { (m : ℕ → ℕ) → SlotHolds (action_of form) field next slot m → machine.perform (action_of form) field next (state_of regs flags m) ≡ answer_of result m }
@@ -433,6 +450,7 @@ fn perform(form: Form, field: u64, next: u64, slot: u64, regs: [u64; 32], flags:
 }
 
 // The field of four bytes at byte h.
+#[tactic(auto, unfolding(rules::specs::Machine::field4))]
 fn field_at(code: &[u8], h: usize) -> u64
     requires { h < 1000 }
     ensures { (result ≡ machine.field_at code.now h) × (result < 2 ^ 32) }
@@ -446,6 +464,7 @@ fn field_at(code: &[u8], h: usize) -> u64
 
 // The step of the instruction that begins `code`, which is loaded at `address`; `slot` is what the 8
 // bytes of its slot hold.
+#[tactic(auto, using(crate::proofs::Laws::decoded), unfolding(rules::specs::Machine::step_at))]
 pub fn step(code: &[u8], address: u64, slot: u64, regs: [u64; 32], flags: Flags) -> Stepped
     ensures by_index { (m : ℕ → ℕ) → CodeSlotHolds code.now address slot m → machine.step_at code.now address (state_of regs flags m) ≡ answer_of result m }
     ensures tidy { Tidy regs flags result }
@@ -462,6 +481,7 @@ pub fn step(code: &[u8], address: u64, slot: u64, regs: [u64; 32], flags: Flags)
 }
 
 // The address of the slot of the instruction that begins `code`, which is loaded at `address`: next + field.
+#[tactic(auto, using(crate::proofs::Laws::decoded))]
 pub fn slot_address(code: &[u8], address: u64) -> u64
     ensures { result ≡ code_slot code.now address }
 {

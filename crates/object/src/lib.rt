@@ -1,3 +1,5 @@
+#![tactic(auto)]
+
 // The constants of the Rust's `object::elf` that x86-64 uses: relocation types by the psABI's names.
 pub const R_X86_64_NONE: u32 = 0;
 

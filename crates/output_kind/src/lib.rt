@@ -1,15 +1,17 @@
 // output_kind.rs: the six output kinds, and the four predicates that document 01's rules use.
+#![tactic(auto)]
+
 ghost use Rattle.std.specs.Prelude.{◌≡◌};
 ghost use Rattle.rules.specs.Record.{output_kind_of, is_f, is_s, is_e, is_p};
 ghost use Rattle.output_kind.specs.Output.{output_number, output_answer, fixed, independent};
 
-#[derive(Drop)]
+#[derive(Clone, Copy)]
 pub enum RelocationModel {
     Fixed,
     PositionIndependent,
 }
 
-#[derive(Drop)]
+#[derive(Clone, Copy)]
 pub enum OutputKind {
     StaticExecutable(RelocationModel),
     DynamicExecutable(RelocationModel),
@@ -17,7 +19,7 @@ pub enum OutputKind {
     PartialLink,
 }
 
-#[derive(Drop)]
+#[derive(Clone, Copy)]
 pub enum OutputKindFound {
     Is(OutputKind),
     Refused(u8),
@@ -25,6 +27,7 @@ pub enum OutputKindFound {
 
 impl OutputKind {
     // The kind of a number of document 01, or refusal 4.
+    #[tactic(auto, unfolding(rules::specs::Record::output_kind_of))]
     pub fn from_number(number: u8) -> OutputKindFound
         ensures { output_answer result ≡ output_kind_of number }
     {

@@ -15,7 +15,7 @@ use x86_64_apply::Moved;
 // The last offset, the end of the last window that isn't empty, whether a skip is pending, and
 // whether the pass has ended.
 #[repr(C)]
-#[derive(Drop)]
+#[derive(Clone, Copy)]
 pub struct Pass {
     pub last: u64,
     pub window: u64,
@@ -23,7 +23,7 @@ pub struct Pass {
     pub ended: bool,
 }
 
-#[derive(Drop)]
+#[derive(Clone, Copy)]
 pub enum Step {
     Nothing,
     Done(Relaxation, Moved),
@@ -31,26 +31,26 @@ pub enum Step {
     Refused(u8),
 }
 
-#[derive(Drop)]
+#[derive(Clone, Copy)]
 pub struct Stepped {
     pub pass: Pass,
     pub step: Step,
 }
 
-#[derive(Drop)]
+#[derive(Clone, Copy)]
 pub enum End {
     Granted,
     Refused(u8),
 }
 
-#[derive(Drop)]
+#[derive(Clone, Copy)]
 pub struct Ended {
     pub pass: Pass,
     pub end: End,
 }
 
 // What the pass says of a record whose choice is known. `Relax` holds the window's end afterwards, and the choice.
-#[derive(Drop)]
+#[derive(Clone, Copy)]
 enum Verdict {
     Refuse(u8),
     Skip,

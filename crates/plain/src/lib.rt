@@ -10,7 +10,7 @@ ghost use Rattle.plain.specs.Plain.{is_plain, plain_of, mask_of, settled_of};
 use answers::{ChoiceAnswer, RelaxedAnswer};
 use rules::Relocation;
 
-#[derive(Drop)]
+#[derive(Clone, Copy)]
 pub enum Plain {
     Settled(RelaxedAnswer),
     Other,

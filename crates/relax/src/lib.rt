@@ -13,7 +13,7 @@ use elf_x86_64_relaxation::{Choice, Relaxation};
 use rules::Relocation;
 use x86_64_apply::{Applied, Moved};
 
-#[derive(Drop)]
+#[derive(Clone, Copy)]
 pub enum Relaxed {
     Nothing,
     Done(Relaxation, Moved),

@@ -3,6 +3,8 @@
 // address, the slot's address and contents (0 where there is none), 16 registers and the flags before, the same after,
 // rip after, and the 8 bytes at rsp - 8 after (A5 in each where nothing is pushed). Where 128 is added to the length there
 // must be no step (tests/machine/make_stopped.py), and what is after counts for nothing.
+#![tactic(auto)]
+
 ghost use Rattle.std.specs.Prelude.{◌<◌};
 
 use hex_lines::{byte, more, print_count, u64_at};

@@ -1,6 +1,8 @@
 // Decodes a list of encodings that llvm-mc made, and prints how many there are and how many decode to something else than they name.
 // A line has 17 bytes in hexadecimal: operation (0 mov, 1 add, 2 sub, 3 cmp, 4 lea), source (0 slot, 1 immediate, 2 address),
 // width (1 is 64 bits), register, length, and the encoding (12 bytes, the rest 0), whose field is 0x11223344.
+#![tactic(auto)]
+
 use hex_lines::{byte, more, print_count};
 
 const STDIN_FILENO: i32 = 0;

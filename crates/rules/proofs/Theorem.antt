@@ -2,13 +2,13 @@
 -- rewriting, give that section.
 -- Assumes nothing.
 use mathlib.Core.Path.{◌≡◌, refl, subst, ◌∙◌}
-use mathlib.Core.Bool.{Bool, true, false, not, ◌&&◌, ◌||◌, cond}
-use mathlib.Core.List.{List, [], ◌∷◌}
+use mathlib.Core.Bool.{Bool, true, false, ◌||◌, cond}
+use mathlib.Core.List.{List}
 use Prim.Native.Nat.{ℕ, ◌+◌, ◌-◌, ◌≤◌, ◌<◌}
 use native.Mathlib.Omega.{arith}
-use lib.Dec.{T, leb, ltb, eqb, eqb→eq, leb→le, lit<}
+use lib.Dec.{T, leb, eqb, eqb→eq, leb→le, lit<}
 use lib.ListN.{length, get_or}
-use lib.IntN.{ℤ, pos, negsuc}
+use lib.IntN.{negsuc}
 use Rattle.x86_64_kind.specs.declared.RelaxationKind.{RelaxationKind}
 use Rattle.x86_64_kind.specs.declared.RelaxationKind.TheVariants.{MovIndirectToLea}
 use Rattle.x86_64_kind.specs.Kinds.{shape_of, inside, allowed}
@@ -16,8 +16,8 @@ use Rattle.rules.specs.declared.Relocation.{Relocation}
 use Rattle.rules.specs.Answer.{Answer, gives, refuses}
 use Rattle.rules.specs.Record.{Limit, too_long, past, flags_above, kind_above}
 use Rattle.rules.specs.Choose.{Choice, none, chosen, is_rex_w, choose, choosing}
-use Rattle.rules.specs.Rewrite.{to_absolute, Rewritten, Filled, relaxed, rewritten, rewrite, rewriting, claims, relax_chosen, relaxing}
-use Rattle.rules.specs.Meaning.{covered, head, begins, start, Instruction, slot_value, Alike, EndsAlike, SameMeaning}
+use Rattle.rules.specs.Rewrite.{to_absolute, Rewritten, Filled, relaxed, rewrite, rewriting, claims, relax_chosen, relaxing}
+use Rattle.rules.specs.Meaning.{head, begins, start, Instruction, slot_value, Alike, EndsAlike, SameMeaning}
 use Rattle.rules.specs.Machine.{State, step}
 use Rattle.laws.proofs.Bools.{either, never}
 use Rattle.laws.proofs.Keys.{is}

@@ -1,10 +1,10 @@
 -- One walk of the choice: what holds of none, and of each kind where the rules choose it, holds of the choice. The choice is walked forward,
 -- by the tests that the rules make.
 -- Assumes nothing.
-use mathlib.Core.Path.{◌≡◌, refl, sym, ap}
-use mathlib.Core.Bool.{Bool, true, false, ◌&&◌, ◌||◌, cond}
+use mathlib.Core.Path.{◌≡◌, refl, ap}
+use mathlib.Core.Bool.{Bool, true, false, ◌&&◌, ◌||◌}
 use mathlib.Core.List.{List}
-use Prim.Native.Nat.{ℕ, ◌+◌, ◌-◌}
+use Prim.Native.Nat.{ℕ, ◌-◌}
 use lib.Dec.{T, leb, eqb, eqb→eq}
 use lib.ListN.{get_or}
 use lib.IntN.{ℤ, pos, negsuc}
@@ -14,9 +14,9 @@ use Rattle.x86_64_kind.specs.declared.RelaxationKind.TheVariants.{RexSubIndirect
 use Rattle.x86_64_kind.specs.declared.RelaxationKind.TheVariants.{TlsDescToLocalExec}
 use Rattle.x86_64_kind.specs.Kinds.{allowed}
 use Rattle.rules.specs.declared.Relocation.{Relocation}
-use Rattle.rules.specs.Record.{is_n, is_k, is_f, ifunc}
+use Rattle.rules.specs.Record.{is_n, is_k, is_f}
 use Rattle.rules.specs.Choose.{Choice, none, chosen, given, pick, is_rex_w, is_minus4, rex_absolute, mov_load, branch_to, tpoff_load, ld_call, desc_choice}
-use Rattle.rules.specs.Choose.{rex_gotpcrelx, gotpcrelx, gotpcrel, gottpoff, code6_gottpoff, tlsgd, tlsld, tlsdesc, by_type, choose}
+use Rattle.rules.specs.Choose.{rex_gotpcrelx, gotpcrelx, gotpcrel, gottpoff, code6_gottpoff, tlsgd, tlsld, tlsdesc, choose}
 use Rattle.rules.specs.Meaning.{covered, head}
 use Rattle.laws.proofs.Bools.{and_left, and_right}
 use Rattle.laws.proofs.Keys.{is}

@@ -1,6 +1,6 @@
 -- Document 01, 'Choosing', in its order; the rules that come before the type (ifunc, not executable) are joined to it at the end. Assumes
 -- nothing.
-use Rattle.std.specs.Prelude.{Bool, true, false, not, ◌&&◌, ◌||◌, cond, List, [], ◌∷◌, ℕ, ◌+◌, ◌-◌, leb, ltb, eqb, length, get_or, drop, ℤ, pos, negsuc}
+use Rattle.std.specs.Prelude.{Bool, true, false, not, ◌&&◌, ◌||◌, cond, List, [], ◌∷◌, ℕ, ◌+◌, ◌-◌, leb, eqb, length, get_or, drop, ℤ, pos, negsuc}
 use Rattle.std.specs.Int.Bits.{bit_and}
 use Rattle.rules.specs.Answer.{Answer, gives, refuses, whether}
 use Rattle.rules.specs.declared.Relocation.{Relocation}

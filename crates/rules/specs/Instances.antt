@@ -10,7 +10,7 @@ use Rattle.rules.specs.Record.{link_limit, relocation}
 use Rattle.rules.specs.Choose.{Choice, none, chosen, choosing}
 use Rattle.rules.specs.Rewrite.{Rewritten, Relaxed, unrelaxed, relaxed, rewriting, relaxing, Filled}
 use Rattle.rules.specs.Fill.{field, Fill, unfilled, filled, filling, after_filling}
-use Rattle.rules.specs.Machine.{State, Flags, Result, stop, stepped, word, signed32, field_at, rip_relative, step}
+use Rattle.rules.specs.Machine.{State, Result, stop, stepped, word, signed32, field_at, rip_relative, step}
 use Rattle.rules.specs.Meaning.{covered, head, begins, start, Instruction, slot_value, Alike}
 
 -- a record of a section that is loaded at `base`, with the slot's value

@@ -4,7 +4,7 @@ use Rattle.elf_kind.specs.declared.RelocationKind.{RelocationKind}
 use Rattle.elf_kind.specs.declared.RelocationKind.TheVariants.{Absolute, SymbolSize, Relative, SymRelGotBase, GotRelGotBase, PltRelGotBase, PltRelative, GotRelative}
 use Rattle.elf_kind.specs.declared.RelocationKind.TheVariants.{TlsGd, TlsLd, DtpOff, GotTpOff, TpOff, TlsDesc, TlsDescCall, None}
 use Rattle.rules.specs.Answer.{Answer, gives, refuses}
-use Rattle.rules.specs.Range.{Range, within, unchecked, signed, unsigned, minus, byte_range}
+use Rattle.rules.specs.Range.{Range, within, signed, unsigned, minus, byte_range}
 
 -- a row of the lookup; the rest of a `RelocationKindInfo` is the same in every row (`elf`'s `info_from`)
 pub record Row : Type 0 where

@@ -1,5 +1,7 @@
 // Document 01 as definitions in specs/: the rules, the machine, and same meaning; the theorems about them stand in
 // proofs/. No code here chooses, rewrites or relaxes: the crates above state their promises with these definitions.
+#![tactic(auto)]
+
 ghost use Rattle.std.specs.Prelude.{◌≡◌, List, ℕ};
 ghost use Rattle.rules.specs.Record.{link_limit};
 ghost use Rattle.rules.specs.Meaning.{SameMeaning};
@@ -9,7 +11,7 @@ ghost use Rattle.rules.specs.Starred.{StarredHold};
 
 // "A record has a type number .., an offset, a flag number .., an output kind, an executable yes/no, a symbol address .. and
 // a signed addend"
-#[derive(Drop)]
+#[derive(Clone, Copy)]
 pub struct Relocation {
     pub r_type: u32,
     pub offset: u64,
@@ -22,7 +24,7 @@ pub struct Relocation {
 
 // "the new type, the field's offset and address, symbol value and addend": a field to fill. For type 23 the value is the
 // thread-pointer offset. The address is given, and not computed from the offset.
-#[derive(Drop)]
+#[derive(Clone, Copy)]
 pub struct Field {
     pub r_type: u32,
     pub offset: u64,

@@ -18,7 +18,7 @@ const SKIPPED: usize = 20;
 const BYTES: usize = 21;
 
 #[repr(C)]
-#[derive(Drop)]
+#[derive(Clone, Copy)]
 pub struct Tally {
     pub figures: [u64; 22],
 }

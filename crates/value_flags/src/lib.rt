@@ -13,12 +13,12 @@ const DYNAMIC: u8 = 4;
 
 const IFUNC: u8 = 8;
 
-#[derive(Drop)]
+#[derive(Clone, Copy)]
 pub struct ValueFlags {
     pub bits: u8,
 }
 
-#[derive(Drop)]
+#[derive(Clone, Copy)]
 pub enum ValueFlagsFound {
     Is(ValueFlags),
     Refused(u8),
@@ -26,6 +26,7 @@ pub enum ValueFlagsFound {
 
 impl ValueFlags {
     // The flags of a number of document 01, or refusal 3.
+    #[tactic(auto, unfolding(rules::specs::Record::flag_number))]
     pub fn from_number(number: u8) -> ValueFlagsFound
         ensures { flags_answer result ≡ flag_number number }
     {

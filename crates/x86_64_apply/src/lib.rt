@@ -1,4 +1,6 @@
 // x86_64.rs: RelaxationKind::apply.
+#![tactic(auto)]
+
 ghost use Rattle.std.specs.Prelude.{◌≡◌, cond, [], ◌∷◌, ◌+◌, ◌-◌, ◌/◌, ◌%◌, ◌≤◌, ◌<◌, pos, length, get_or};
 ghost use Rattle.std.proofs.lemmas.List.Edits.{sets};
 ghost use Rattle.x86_64_kind.specs.Kinds.{begin, shape_of};
@@ -13,19 +15,20 @@ ghost use Rattle.x86_64_apply.specs.Apply.{applied_of, Ready, attempted};
 use x86_64_kind::{RelaxationKind, Shape};
 
 // Where the field lies now, and its addend.
-#[derive(Drop)]
+#[derive(Clone, Copy)]
 pub struct Moved {
     pub offset: u64,
     pub addend: i64,
 }
 
-#[derive(Drop)]
+#[derive(Clone, Copy)]
 pub enum Applied {
     Done(Moved),
     Refused(u8),
 }
 
 // Rewrites the bytes of one instruction. Refusals 1, 2, 5, 6, which change nothing.
+#[tactic(auto, unfolding(rules::specs::Rewrite::rewriting, rules::specs::Rewrite::after_rewriting))]
 pub fn apply(
     kind: RelaxationKind,
     section_bytes: &mut [u8],
@@ -224,6 +227,7 @@ fn rewrite(kind: RelaxationKind, section_bytes: &mut [u8], offset: u64, addend: 
 // ---- The writers: where the window lies inside, the new bytes; otherwise refusal 6
 
 // A fixed byte string, at the window's begin.
+#[tactic(auto, unfolding(rules::specs::Rewrite::after_rewriting))]
 fn replace(
     shape: Shape,
     section_bytes: &mut [u8],
@@ -245,6 +249,7 @@ fn replace(
 }
 
 // An opcode and its ModRM byte in register form.
+#[tactic(auto, unfolding(rules::specs::Rewrite::after_rewriting))]
 fn mov_to_absolute(shape: Shape, section_bytes: &mut [u8], offset: u64, addend: i64) -> Applied
     requires { Ready shape section_bytes.old offset × (2 ≤ shape.window.back) × (shape.window.back ≤ shape.window.size) }
     ensures value { result ≡ applied_of (attempted shape (rewritten MovIndirectToAbsolute section_bytes.old offset) section_bytes.old offset addend) }
@@ -260,6 +265,7 @@ fn mov_to_absolute(shape: Shape, section_bytes: &mut [u8], offset: u64, addend: 
 }
 
 // The same after a REX or REX2 prefix.
+#[tactic(auto, unfolding(rules::specs::Rewrite::after_rewriting))]
 fn to_absolute(
     shape: Shape,
     section_bytes: &mut [u8],
@@ -283,6 +289,7 @@ fn to_absolute(
 }
 
 // The same after an EVEX prefix: add.
+#[tactic(auto, unfolding(rules::specs::Rewrite::after_rewriting))]
 fn evex_add_to_absolute(shape: Shape, section_bytes: &mut [u8], offset: u64, addend: i64) -> Applied
     requires { Ready shape section_bytes.old offset × (5 ≤ shape.window.back) × (shape.window.back ≤ shape.window.size) }
     ensures value { result ≡ applied_of (attempted shape (evex_to_absolute section_bytes.old offset) section_bytes.old offset addend) }
@@ -298,6 +305,7 @@ fn evex_add_to_absolute(shape: Shape, section_bytes: &mut [u8], offset: u64, add
 }
 
 // lea, with the register as its base too.
+#[tactic(auto, unfolding(rules::specs::Rewrite::after_rewriting))]
 fn add_to_lea(shape: Shape, section_bytes: &mut [u8], offset: u64, addend: i64) -> Applied
     requires { Ready shape section_bytes.old offset × (3 ≤ shape.window.back) × (shape.window.back ≤ shape.window.size) }
     ensures value { result ≡ applied_of (attempted shape (rewritten (RexAddIndirectToLea 3) section_bytes.old offset) section_bytes.old offset addend) }

@@ -1,10 +1,12 @@
 // x86_64.rs: RelaxationKind, with its numbers of document 01 and what 'Rewriting' says of each kind but its
 // bytes; relaxation.rs: RelocationModifier.
+#![tactic(auto)]
+
 ghost use Rattle.std.specs.Prelude.{◌≡◌};
 ghost use Rattle.x86_64_kind.specs.Kinds.{inside, shape, shape_of, allowed, allows, skips, is_skip, numbered};
 ghost use Rattle.x86_64_kind.specs.declared.RelaxationKind.TheVariants.{RexAddIndirectToAbsolute};
 
-#[derive(Drop)]
+#[derive(Clone, Copy)]
 pub enum RelaxationKind {
     // A mov that would have loaded an address doesn't use the GOT: `mov *x(%rip), reg` -> `lea x(%rip), reg`.
     MovIndirectToLea,
@@ -49,14 +51,14 @@ pub enum RelaxationKind {
 }
 
 // The bytes that a kind reads or writes: `size` of them, from `back` before the offset on.
-#[derive(Drop)]
+#[derive(Clone, Copy)]
 pub struct Window {
     pub back: u64,
     pub size: u64,
 }
 
 // What `apply` does for a kind, but for the bytes.
-#[derive(Drop)]
+#[derive(Clone, Copy)]
 pub struct Shape {
     // "0 to 18 in the order of `RelaxationKind`": with the instruction offset it tells the kind.
     pub number: u8,
@@ -69,7 +71,7 @@ pub struct Shape {
     pub clears: bool,
 }
 
-#[derive(Drop)]
+#[derive(Clone, Copy)]
 pub enum RelocationModifier {
     Normal,
     SkipNextRelocation,

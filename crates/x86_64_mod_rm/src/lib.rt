@@ -1,4 +1,6 @@
 // x86_64.rs, apply: the ModRM byte of an instruction whose operand becomes a register, from a table.
+#![tactic(auto)]
+
 ghost use Rattle.std.specs.Prelude.{◌≡◌, ◌%◌, get_or};
 ghost use Rattle.rules.specs.Rewrite.{direct};
 ghost use Rattle.x86_64_mod_rm.specs.Table.{RegisterForms};

@@ -10,7 +10,7 @@ use elf_kind::RelocationKind;
 
 // A field's size with the range of its values, as constants: those of `AllowedRange::from_byte_size`
 // but for the two mixed ranges.
-#[derive(Drop)]
+#[derive(Clone, Copy)]
 struct RelocSizeAndRange {
     size: RelocationSize,
     range: AllowedRange,
@@ -88,13 +88,14 @@ const RELOC_NONE: RelocSizeAndRange = RelocSizeAndRange {
     range: UNCHECKED,
 };
 
-#[derive(Drop)]
+#[derive(Clone, Copy)]
 pub enum RelocationFound {
     Is(RelocationKindInfo),
     Refused(u8),
 }
 
 // The supplied x86-64 relocation as RelocationKindInfo, or refusal 7 if the r_type isn't recognised.
+#[tactic(auto, using(rules::proofs::Psabi::conforms, rules::proofs::Psabi::left_out_rows, rules::proofs::Records::types_worked), unfolding(rules::specs::Types::lookup, rules::specs::Types::earlier_types, rules::specs::Range::byte_range))]
 pub fn relocation_from_raw(r_type: u32) -> RelocationFound
     ensures value { result ≡ found_of (lookup r_type) }
     ensures conforms { Conforms r_type (lookup r_type) }
@@ -136,6 +137,7 @@ pub fn relocation_from_raw(r_type: u32) -> RelocationFound
 }
 
 // The types that the psABI added for relaxation: GOTPCRELX, and the forms with longer prefixes.
+#[tactic(auto, unfolding(rules::specs::Types::later_types, rules::specs::Range::byte_range))]
 fn later_relocation(r_type: u32) -> RelocationFound
     ensures { result ≡ found_of (find later_types r_type) }
 {
