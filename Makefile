@@ -10,7 +10,7 @@ INCLUDEDIR ?= $(PREFIX)/include
 PKGCONFIGDIR ?= $(LIBDIR)/pkgconfig
 
 archive := target/staticlib/libjitamoro.a
-sources := build crates.txt $(shell find crates -name '*.rt' -o -name '*.antt')
+sources := build crates.txt $(shell find crates -name out -prune -o '(' -name '*.rt' -o -name '*.antt' ')' -print)
 version := $(shell sed -n 's/^.define JITAMORO_VERSION "\(.*\)"/\1/p' include/jitamoro.h)
 installed := $(LIBDIR)/libjitamoro.a $(INCLUDEDIR)/jitamoro.h $(PKGCONFIGDIR)/jitamoro.pc
 
