@@ -7,7 +7,7 @@ use Prim.Native.Nat.{ℕ}
 use lib.Dec.{ltb}
 use lib.ListN.{length}
 use Rattle.x86_64_kind.specs.declared.RelaxationKind.{RelaxationKind}
-use Rattle.x86_64_kind.specs.Kinds.{begin, end, is_empty, inside, skips}
+use Rattle.x86_64_kind.specs.Kinds.{begin, end, is_empty, inside}
 use Rattle.rules.specs.declared.Relocation.{Relocation}
 use Rattle.rules.specs.Answer.{Answer, gives, refuses}
 use Rattle.rules.specs.Record.{link_limit}

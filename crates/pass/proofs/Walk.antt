@@ -17,13 +17,13 @@ use Rattle.x86_64_kind.specs.Kinds.{is_empty, begin, end, inside}
 use Rattle.rules.specs.declared.Relocation.{Relocation}
 use Rattle.rules.specs.Record.{link_limit}
 use Rattle.rules.specs.Choose.{Choice, choosing}
-use Rattle.rules.specs.Rewrite.{Rewritten, unrelaxed, relaxed, rewritten, claims, relaxing, after_relaxing}
+use Rattle.rules.specs.Rewrite.{Rewritten, unrelaxed, relaxed, claims, relaxing, after_relaxing}
 use Rattle.x86_64_kind.proofs.Windows.{within}
 use Rattle.rules.proofs.Kept.{Kept, kept}
 use Rattle.laws.proofs.Bools.{both}
 use Rattle.pass.specs.declared.Pass.{Pass}
 use Rattle.pass.specs.Pass.{is_pending, is_type0, passing, Accepted, took, skipped, overlaps, checked, clearing, stepping, pass_left, bytes_after, ending}
-use Rattle.pass.specs.Walk.{Walk, answer, stepped, walk, answers, offset_of, offsets, Part, part_from, part_of, parts, Rising, Apart, Inside, Outside, is_refused, sets_skip, between, last_at, Walks}
+use Rattle.pass.specs.Walk.{Walk, answer, stepped, walk, answers, offset_of, offsets, Part, part_of, parts, Rising, Apart, Inside, Outside, is_refused, sets_skip, between, last_at, Walks}
 use Rattle.pass.proofs.Stepping.{Sound, step_sound, relaxing_rewrites}
 
 -- ---- order

@@ -1,5 +1,7 @@
 // The pass above one record: it walks a section's records by value, and sees of choosing and of
 // relaxing by a choice only what they promise. A refusal hands the pass and the section back unchanged.
+#![tactic(auto)]
+
 ghost use Rattle.std.specs.Prelude.{◌≡◌};
 ghost use Rattle.rules.specs.Meaning.{SameMeaning};
 ghost use Rattle.pass.specs.Pass.{fresh_pass};
@@ -61,6 +63,7 @@ enum Verdict {
 impl Pass {
     // A pass before its first record. The contract also says what holds of every walk, from any pass on,
     // with a worked one.
+    #[tactic(auto, using(crate::proofs::Walk::walks, crate::proofs::Worked::worked))]
     pub fn fresh() -> Pass
         ensures value { result ≡ fresh_pass }
         ensures walks { Walks }
@@ -75,6 +78,7 @@ impl Pass {
     }
 
     // Takes one record. Refusals 21, 1, 2, 3, 4, 22, 6, 23.
+    #[tactic(auto, using(rules::proofs::Theorem::same_meaning_of))]
     pub fn step(self, section_bytes: &mut [u8], rel: Relocation) -> Stepped
         ensures section_bytes_after { taken result section_bytes.new ≡ step self section_bytes.old rel }
         ensures same_meaning { SameMeaning section_bytes.old }
