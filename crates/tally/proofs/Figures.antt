@@ -1,6 +1,6 @@
 -- What a step does to the figures: at each place its share, wrapping; to the first 21 together a record, or nothing under a refusal.
 -- Assumes nothing.
-use Rattle.std.proofs.Common.{◌≡◌, ℕ, zero, suc, ◌+◌, ◌%◌, ◌^◌, ◌<◌, ◌≤◌, Bool, true, false, cond, eqb, List, [], ◌∷◌, length, get_or, take, set, sym, refl, ◌∙◌, subst, le_refl, le_of_suc-le-suc, not-suc-le-zero, arith, length-set, get_or-set_other, get_or-set_same, eqb-true}
+use Rattle.std.proofs.Common.{◌≡◌, ℕ, zero, suc, ◌+◌, ◌%◌, ◌^◌, ◌<◌, ◌≤◌, Bool, true, false, cond, eqb, List, [], ◌∷◌, length, get_or, take, sym, refl, ◌∙◌, subst, le_refl, le_of_suc-le-suc, not-suc-le-zero, arith, length-set, get_or-set_other, get_or-set_same, eqb-true}
 use lib.Seq.{take-set-le}
 use borrow.Author.Tests.{eqb-false}
 use Rattle.x86_64_kind.specs.declared.RelaxationKind.{RelaxationKind}

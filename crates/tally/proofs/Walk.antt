@@ -6,7 +6,7 @@ use Rattle.rules.specs.declared.Relocation.{Relocation}
 use Rattle.pass.specs.declared.Step.{Step}
 use Rattle.pass.specs.Answers.{step_of}
 use Rattle.pass.specs.Walk.{answer, walk, answers}
-use Rattle.tally.specs.Tally.{share, tallied, sum, accepted}
+use Rattle.tally.specs.Tally.{share, sum, accepted}
 use Rattle.tally.specs.Walk.{Tallied, fresh, takes, ends, Act, acted, after, steps, Tallies}
 use Rattle.tally.proofs.Figures.{length-tallied, below, wraps, get_or-tallied, sum-tallied}
 

@@ -1,4 +1,6 @@
 // Document 02, card 1: the tally that is kept with a pass. Its figures are lent, so that a step copies none of them.
+#![tactic(auto)]
+
 ghost use Rattle.std.specs.Prelude.{◌≡◌, ◌<◌, if◌then◌else◌};
 ghost use Rattle.x86_64_kind.specs.Kinds.{shape_of};
 ghost use Rattle.x86_64_kind.specs.declared.RelaxationKind.TheVariants.{NoOp};
@@ -26,6 +28,7 @@ pub struct Tally {
 impl Tally {
     // The tally of a pass before its first record. The contract also says what holds of every walk with a tally, with a
     // worked one.
+    #[tactic(auto, using(crate::proofs::Walk::tallies, crate::proofs::Worked::worked))]
     pub fn fresh() -> Tally
         ensures figures_value { result.figures ≡ fresh_tally }
         ensures tallies { Tallies }
@@ -36,6 +39,7 @@ impl Tally {
 }
 
 // Counts a step. A refused one changes no figure.
+#[tactic(auto, unfolding(crate::specs::Tally::tallied))]
 pub fn count(figures: &mut [u64; 22], step: Step)
     ensures { figures.new ≡ tallied figures.old step }
 {
