@@ -1,4 +1,6 @@
 // What choosing, rewriting and relaxing answer, in the layout of the exported functions.
+#![tactic(auto)]
+
 ghost use Rattle.std.specs.Prelude.{◌≡◌, ◌*◌, ◌^◌, ◌≤◌, ◌<◌};
 ghost use Rattle.rules.specs.Answer.{flag};
 ghost use Rattle.answers.specs.Layout.{flag_bytes, chosen_not, chosen_layout, choice_layout, moved_layout, relaxed_not, relaxed_layout};

@@ -14,12 +14,12 @@ use lib.ListN.{length}
 use Rattle.laws.proofs.Bools.{both}
 use Rattle.laws.proofs.Keys.{at_down}
 use Rattle.x86_64_kind.specs.declared.RelaxationKind.TheVariants.{NoOp}
-use Rattle.rules.specs.Answer.{Answer, gives}
+use Rattle.rules.specs.Answer.{gives}
 use Rattle.rules.specs.Range.{bit}
 use Rattle.rules.specs.declared.Relocation.{Relocation}
 use Rattle.rules.specs.Record.{link_limit, ifunc, is_n, is_s}
-use Rattle.rules.specs.Types.{lookup, earlier_types, later_types}
-use Rattle.rules.specs.Choose.{Choice, none, chosen, given, pick, by_type, choose, choosing, needs_fallback}
+use Rattle.rules.specs.Types.{lookup, earlier_types}
+use Rattle.rules.specs.Choose.{Choice, none, chosen, given, pick, choose, choosing, needs_fallback}
 use Rattle.rules.specs.Rewrite.{Relaxed, unrelaxed, relaxed, claims, relax_chosen, relaxing, after_relaxing}
 use Rattle.elf_x86_64_relaxation.specs.Choices.{choice_of}
 use Rattle.relax.specs.Answers.{relaxed_of}

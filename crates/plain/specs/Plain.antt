@@ -1,5 +1,5 @@
 -- Which records are plain, and what their numbers settle. Assumes nothing.
-use Rattle.std.specs.Prelude.{Bool, true, false, cond, ◌&&◌, ◌||◌, List, ℕ, eqb, leb, ltb, pos, length}
+use Rattle.std.specs.Prelude.{Bool, cond, ◌&&◌, ◌||◌, List, ℕ, eqb, leb, ltb, pos, length}
 use Rattle.rules.specs.declared.Relocation.{Relocation}
 use Rattle.rules.specs.Record.{link_limit, is_s}
 use Rattle.rules.specs.Range.{bit}

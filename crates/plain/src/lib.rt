@@ -1,5 +1,7 @@
 // Relaxing a plain record, by its numbers alone: most records of an object have a type below 9, for which no byte is
 // looked at. There is no branch in what is computed, since flags and types come in no order.
+#![tactic(auto)]
+
 ghost use Rattle.std.specs.Prelude.{◌≡◌, cond, ◌≤◌, eqb, pos};
 ghost use Rattle.rules.specs.Record.{link_limit};
 ghost use Rattle.rules.specs.Rewrite.{relaxing};
