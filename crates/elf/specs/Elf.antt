@@ -1,5 +1,5 @@
 -- The code's types of elf.rs as the rules have them. Assumes nothing.
-use Rattle.std.specs.Prelude.{Bool, true, false, cond, ℕ, pos}
+use Rattle.std.specs.Prelude.{true, false, cond, ℕ, pos}
 use Rattle.rules.specs.Range as rules
 use Rattle.rules.specs.Range.{Range, within, unchecked, signed, unsigned}
 use Rattle.rules.specs.Types.{Row}

@@ -1,4 +1,6 @@
 // elf.rs, as far as x86-64 uses them.
+#![tactic(auto)]
+
 ghost use Rattle.std.specs.Prelude.{◌≡◌, ℕ, length};
 ghost use Rattle.rules.specs.Range.{unchecked, within, contains, byte_range, signed64, Keeps, low_first, LowPart};
 ghost use Rattle.rules.specs.Rewrite.{word_of};

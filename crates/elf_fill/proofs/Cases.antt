@@ -10,12 +10,8 @@ use Rattle.rules.specs.Record.{link_limit}
 use Rattle.rules.specs.Range.{contains, signed64, low_first}
 use Rattle.rules.specs.Types.{Row, lookup, earlier_types, later_types}
 use Rattle.rules.specs.Choose.{in_range}
-use Rattle.rules.specs.Fill.{fills, field_value, Fill, unfilled, filled, filling, after_filling, Fills}
-use Rattle.rules.specs.Meaning.{SameMeaning}
-use Rattle.rules.specs.Records.{FillWorked}
-use Rattle.rules.proofs.Fill.{length-low, of_four, exact}
-use Rattle.rules.proofs.Theorem.{same_meaning_of}
-use Rattle.rules.proofs.Records.{fill_worked}
+use Rattle.rules.specs.Fill.{fills, field_value, Fill, unfilled, filled, filling, after_filling}
+use Rattle.rules.proofs.Fill.{length-low, of_four}
 use Rattle.elf.specs.declared.RelocationKindInfo.{RelocationKindInfo}
 use Rattle.elf.specs.Elf.{range_of, info_from}
 use Rattle.elf.proofs.Back.{range_back}

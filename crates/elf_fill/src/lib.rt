@@ -1,5 +1,7 @@
 // elf.rs: RelocationKindInfo::write_to_buffer, and what its callers do around it: a field's value and its place. Document
 // 02, card 4.
+#![tactic(auto)]
+
 ghost use Rattle.std.specs.Prelude.{◌≡◌, ℕ, List};
 ghost use Rattle.rules.specs.Record.{link_limit};
 ghost use Rattle.rules.specs.Range.{contains};

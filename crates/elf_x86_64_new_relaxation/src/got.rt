@@ -10,6 +10,7 @@ use elf_x86_64_relaxation::Choice;
 use x86_64_kind::RelaxationKind::*;
 
 // 42, 43
+#[tactic(auto, unfolding(rules::specs::Choose::rex_gotpcrelx, rules::specs::Choose::given, rules::specs::Choose::pick))]
 pub fn rex_gotpcrelx(section_bytes: &[u8], q: Asked, inst_offset: u8) -> Choice
     requires { (3 ≤ inst_offset) × (q.offset ≤ length section_bytes.now) }
     ensures { result ≡ choice_of (gives (rex_gotpcrelx section_bytes.now (record_of q) inst_offset)) }
@@ -35,6 +36,7 @@ pub fn rex_gotpcrelx(section_bytes: &[u8], q: Asked, inst_offset: u8) -> Choice
     Choice::Nothing
 }
 
+#[tactic(auto, unfolding(rules::specs::Choose::rex_absolute, rules::specs::Choose::given, rules::specs::Choose::pick))]
 fn rex_absolute(b1: u8, address: u64, inst_offset: u8, mandatory: bool) -> Choice
     ensures { result ≡ choice_of (gives (rex_absolute b1 address inst_offset mandatory)) }
 {
@@ -55,6 +57,7 @@ fn rex_absolute(b1: u8, address: u64, inst_offset: u8, mandatory: bool) -> Choic
 }
 
 // 41
+#[tactic(auto, unfolding(rules::specs::Choose::gotpcrelx, rules::specs::Choose::branch_to, rules::specs::Choose::given, rules::specs::Choose::pick))]
 pub fn gotpcrelx(section_bytes: &[u8], q: Asked) -> Choice
     requires { q.offset ≤ length section_bytes.now }
     ensures { result ≡ choice_of (gives (gotpcrelx section_bytes.now (record_of q))) }
@@ -87,6 +90,7 @@ pub fn gotpcrelx(section_bytes: &[u8], q: Asked) -> Choice
     Choice::Nothing
 }
 
+#[tactic(auto, unfolding(rules::specs::Choose::mov_load, rules::specs::Choose::given, rules::specs::Choose::pick))]
 fn mov_load(address: u64, fixed: bool, mandatory: bool) -> Choice
     ensures { result ≡ choice_of (gives (mov_load address fixed mandatory)) }
 {
@@ -101,6 +105,7 @@ fn mov_load(address: u64, fixed: bool, mandatory: bool) -> Choice
 }
 
 // 9
+#[tactic(auto, unfolding(rules::specs::Choose::gotpcrel, rules::specs::Choose::given))]
 pub fn gotpcrel(section_bytes: &[u8], q: Asked) -> Choice
     requires { q.offset ≤ length section_bytes.now }
     ensures { result ≡ choice_of (gives (gotpcrel section_bytes.now (record_of q))) }

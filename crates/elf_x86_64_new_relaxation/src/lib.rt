@@ -1,4 +1,6 @@
 // elf_x86_64.rs: new_relaxation.
+#![tactic(auto)]
+
 ghost use Rattle.std.specs.Prelude.{◌≡◌, true, [], ◌≤◌, length};
 ghost use Rattle.rules.specs.Answer.{gives};
 ghost use Rattle.rules.specs.Record.{link_limit, is_a};
@@ -41,6 +43,7 @@ struct Asked {
 }
 
 // Chooses a relaxation for one record. Refusals 1 to 4.
+#[tactic(auto, unfolding(rules::specs::Choose::choosing, rules::specs::Record::flag_number, rules::specs::Record::output_kind_of))]
 pub fn new_relaxation(section_bytes: &[u8], rel: Relocation) -> Choice
     ensures { result ≡ choice_of (choosing link_limit section_bytes.now rel) }
 {
@@ -71,6 +74,7 @@ pub fn new_relaxation(section_bytes: &[u8], rel: Relocation) -> Choice
     }
 }
 
+#[tactic(auto, unfolding(rules::specs::Choose::choose, rules::specs::Choose::given, rules::specs::Choose::pick))]
 fn choose(section_bytes: &[u8], q: Asked) -> Choice
     requires { q.offset ≤ length section_bytes.now }
     ensures { result ≡ choice_of (gives (choose section_bytes.now (record_of q))) }
@@ -93,6 +97,7 @@ fn choose(section_bytes: &[u8], q: Asked) -> Choice
 }
 
 // The types of executable sections, then their opcode bytes.
+#[tactic(auto, unfolding(rules::specs::Choose::given, rules::specs::Choose::pick))]
 fn by_type(r_type: u32, section_bytes: &[u8], q: Asked) -> Choice
     requires { q.offset ≤ length section_bytes.now }
     ensures { result ≡ choice_of (gives (by_type section_bytes.now (record_of q) r_type)) }
@@ -120,6 +125,7 @@ fn by_type(r_type: u32, section_bytes: &[u8], q: Asked) -> Choice
 }
 
 // 4, 31
+#[tactic(auto, unfolding(rules::specs::Choose::given))]
 fn no_op(q: Asked, new_type: u32) -> Choice
     ensures { result ≡ choice_of (gives (no_op [] (record_of q) new_type)) }
 {
@@ -144,6 +150,7 @@ fn relax_to(kind: RelaxationKind, new_type: u32, mandatory: bool) -> Choice
 }
 
 // Whether a prefix with W stands before opcode and ModRM byte: REX, or REX2 where the instruction offset is 4.
+#[tactic(auto, unfolding(rules::specs::Choose::is_rex2_w))]
 fn is_rex_w(section_bytes: &[u8], offset: usize, inst_offset: u8) -> bool
     requires { (3 ≤ inst_offset) × (offset ≤ length section_bytes.now) }
     ensures value { result ≡ prefixed section_bytes.now offset inst_offset }

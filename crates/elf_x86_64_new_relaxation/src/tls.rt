@@ -11,6 +11,7 @@ use elf_x86_64_relaxation::Choice;
 use x86_64_kind::RelaxationKind::*;
 
 // 22, 44
+#[tactic(auto, unfolding(rules::specs::Choose::gottpoff, rules::specs::Choose::tpoff_load, rules::specs::Choose::given, rules::specs::Choose::pick))]
 pub fn gottpoff(section_bytes: &[u8], q: Asked, inst_offset: u8) -> Choice
     requires { q.offset ≤ length section_bytes.now }
     ensures { result ≡ choice_of (gives (gottpoff section_bytes.now (record_of q) inst_offset)) }
@@ -42,6 +43,7 @@ pub fn gottpoff(section_bytes: &[u8], q: Asked, inst_offset: u8) -> Choice
 }
 
 // 50
+#[tactic(auto, unfolding(rules::specs::Choose::code6_gottpoff, rules::specs::Choose::given))]
 pub fn code_6_gottpoff(section_bytes: &[u8], q: Asked) -> Choice
     requires { q.offset ≤ length section_bytes.now }
     ensures { result ≡ choice_of (gives (code6_gottpoff section_bytes.now (record_of q))) }
@@ -77,6 +79,7 @@ pub fn code_6_gottpoff(section_bytes: &[u8], q: Asked) -> Choice
 }
 
 // 19
+#[tactic(auto, unfolding(rules::specs::Choose::tlsgd, rules::specs::Choose::given, rules::specs::Choose::pick))]
 pub fn tlsgd(section_bytes: &[u8], q: Asked) -> Choice
     requires { q.offset ≤ length section_bytes.now }
     ensures { result ≡ choice_of (gives (tlsgd section_bytes.now (record_of q))) }
@@ -113,6 +116,7 @@ pub fn tlsgd(section_bytes: &[u8], q: Asked) -> Choice
 }
 
 // 20
+#[tactic(auto, unfolding(rules::specs::Choose::tlsld, rules::specs::Choose::given))]
 pub fn tlsld(section_bytes: &[u8], q: Asked) -> Choice
     requires { q.offset ≤ length section_bytes.now }
     ensures { result ≡ choice_of (gives (tlsld section_bytes.now (record_of q))) }
@@ -129,6 +133,7 @@ pub fn tlsld(section_bytes: &[u8], q: Asked) -> Choice
 }
 
 // What follows the lea of a local dynamic sequence.
+#[tactic(auto, unfolding(rules::specs::Choose::ld_call, rules::specs::Choose::given, rules::specs::Choose::pick))]
 fn ld_call(part: &[u8], mandatory: bool) -> Choice
     ensures { result ≡ choice_of (gives (ld_call part.now mandatory)) }
 {
@@ -150,6 +155,7 @@ fn ld_call(part: &[u8], mandatory: bool) -> Choice
 }
 
 // 34, 45
+#[tactic(auto, unfolding(rules::specs::Choose::tlsdesc, rules::specs::Choose::desc_choice, rules::specs::Choose::given, rules::specs::Choose::pick))]
 pub fn tlsdesc(section_bytes: &[u8], q: Asked, inst_offset: u8) -> Choice
     requires { (3 ≤ inst_offset) × (q.offset ≤ length section_bytes.now) }
     ensures { result ≡ choice_of (gives (tlsdesc section_bytes.now (record_of q) inst_offset)) }
@@ -180,6 +186,7 @@ pub fn tlsdesc(section_bytes: &[u8], q: Asked, inst_offset: u8) -> Choice
 }
 
 // 35. The condition (executable output) must be that of 34 and 45.
+#[tactic(auto, unfolding(rules::specs::Choose::given))]
 pub fn tlsdesc_call(q: Asked) -> Choice
     ensures { result ≡ choice_of (gives (tlsdesc_call [] (record_of q))) }
 {

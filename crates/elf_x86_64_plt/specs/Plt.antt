@@ -1,5 +1,4 @@
 -- The code's answer of `write_plt_entry` as the rules have it. Assumes nothing.
-use Rattle.std.specs.Prelude.{ℕ}
 use Rattle.rules.specs.Answer.{Answer, gives, refuses}
 use Rattle.elf_x86_64_plt.specs.declared.PltEntry.{PltEntry}
 use Rattle.elf_x86_64_plt.specs.declared.PltEntry.TheVariants.{Written, Refused}

@@ -1,4 +1,6 @@
 // elf_x86_64.rs: PLT entries and section padding.
+#![tactic(auto)]
+
 ghost use Rattle.std.specs.Prelude.{◌≡◌, ◌+◌, ◌≤◌, true, length, replicate};
 ghost use Rattle.std.proofs.lemmas.List.Edits.{sets};
 ghost use Rattle.rules.specs.Range.{low_first};
@@ -17,6 +19,7 @@ pub enum PltEntry {
 // Writes a PLT entry that jumps through the GOT entry. Refusals: 8 where the buffer isn't 16 bytes
 // long, which changes nothing; 9 where the displacement doesn't fit 32 bits, which leaves the blank
 // template.
+#[tactic(auto, using(rules::proofs::Records::plt_worked), unfolding(rules::specs::Plt::plt_answer, rules::specs::Plt::plt_bytes))]
 pub fn write_plt_entry(plt_entry: &mut [u8], got_address: u64, plt_address: u64) -> PltEntry
     ensures result_value { entry_answer result ≡ plt_answer plt_entry.old got_address plt_address }
     ensures plt_entry_after { plt_entry.new ≡ plt_bytes plt_entry.old got_address plt_address }
@@ -36,6 +39,7 @@ pub fn write_plt_entry(plt_entry: &mut [u8], got_address: u64, plt_address: u64)
     PltEntry::Refused(9)
 }
 
+#[tactic(auto, unfolding(rules::specs::Plt::template))]
 fn write_entry(entry: &mut [u8], displacement: u64)
     requires { length entry.old ≡ 16 }
     ensures { entry.new ≡ sets template 6 (low_first 4 displacement) }
@@ -45,6 +49,7 @@ fn write_entry(entry: &mut [u8], displacement: u64)
 }
 
 // PLT_ENTRY_TEMPLATE: endbr64; jmp *{relative GOT address}(%rip); nopw 0x0(%rax,%rax,1)
+#[tactic(auto, unfolding(rules::specs::Plt::template))]
 fn write_template(plt_entry: &mut [u8])
     requires { length plt_entry.old ≡ 16 }
     ensures { plt_entry.new ≡ template }
@@ -53,6 +58,7 @@ fn write_template(plt_entry: &mut [u8])
 }
 
 // From the end of the jump at byte 10 of the entry to the GOT entry.
+#[tactic(auto, using(laws::proofs::Wrap::wraps), unfolding(rules::specs::Plt::displacement))]
 fn plt_displacement(got_address: u64, plt_address: u64) -> u64
     ensures { result ≡ displacement got_address plt_address }
 {
@@ -60,6 +66,7 @@ fn plt_displacement(got_address: u64, plt_address: u64) -> u64
 }
 
 // Executable sections are padded with int3, other sections with zeros.
+#[tactic(auto, unfolding(rules::specs::Plt::padding))]
 pub fn fill_section_padding(buf: &mut [u8], executable: bool)
     ensures { buf.new ≡ padding executable (length buf.old) }
 {
@@ -70,6 +77,7 @@ pub fn fill_section_padding(buf: &mut [u8], executable: bool)
     }
 }
 
+#[tactic(auto, unfolding(rules::specs::Plt::padding))]
 fn fill_nop_padding(buf: &mut [u8])
     ensures { buf.new ≡ padding true (length buf.old) }
 {
@@ -78,6 +86,7 @@ fn fill_nop_padding(buf: &mut [u8])
 
 // The Rust's `buf.fill(byte)`. Up to 64 bytes go by two runs of stores, which may overlap: most
 // padding is short, and a call of memset costs more than that.
+#[tactic(auto, using(crate::proofs::Runs::whole))]
 fn fill(buf: &mut [u8], byte: u8)
     ensures { buf.new ≡ replicate (length buf.old) byte }
 {
@@ -95,6 +104,7 @@ fn fill(buf: &mut [u8], byte: u8)
     }
 }
 
+#[tactic(auto, using(crate::proofs::Runs::ends, crate::proofs::Runs::whole))]
 fn fill_short(buf: &mut [u8], byte: u8)
     requires { length buf.old ≤ 16 }
     ensures { buf.new ≡ replicate (length buf.old) byte }

@@ -1,4 +1,6 @@
 // elf_x86_64.rs: Relaxation and its accessors, and what new_relaxation answers.
+#![tactic(auto)]
+
 ghost use Rattle.std.specs.Prelude.{◌≡◌};
 ghost use Rattle.x86_64_kind.specs.Kinds.{skips, is_skip};
 ghost use Rattle.rules.specs.Types.{lookup};

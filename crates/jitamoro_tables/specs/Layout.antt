@@ -1,5 +1,5 @@
 -- The tables' answers in the exported layouts: every field, for what is given and for a refusal. Assumes nothing.
-use Rattle.std.specs.Prelude.{Bool, false, not, ℕ, pos}
+use Rattle.std.specs.Prelude.{false, not, ℕ, pos}
 use Rattle.rules.specs.Answer.{Answer, refusal_of, whether}
 use Rattle.rules.specs.Record.{is_e, is_s, is_p, is_f, is_k, is_n, absolute, dynamic, ifunc}
 use Rattle.elf_kind.specs.Kind.{kind_number}

@@ -1,5 +1,7 @@
 // Exported to C and Rust: the tables, PLT entries and padding. In an answer `refusal` is 0, or a refusal's number of document 01, and then every
 // other field is 0.
+#![tactic(auto)]
+
 ghost use Rattle.std.specs.Prelude.{◌≡◌, cond, length};
 ghost use Rattle.rules.specs.Answer.{refusal_of};
 ghost use Rattle.rules.specs.Record.{output_kind_of, flag_number};

@@ -1,6 +1,6 @@
 -- What follows of what choosing answered: refusals and none are relaxing's own, and a choice goes through rewriting.
 -- Assumes nothing.
-use mathlib.Core.Path.{◌≡◌, refl, subst, ◌∙◌}
+use mathlib.Core.Path.{◌≡◌, refl, ◌∙◌}
 use mathlib.Core.List.{List}
 use Prim.Native.Nat.{ℕ}
 use Rattle.rules.specs.declared.Relocation.{Relocation}

@@ -1,4 +1,6 @@
 // Relaxing one record: choosing, then rewriting. It sees of both only what they promise.
+#![tactic(auto)]
+
 ghost use Rattle.std.specs.Prelude.{◌≡◌};
 ghost use Rattle.rules.specs.Record.{link_limit};
 ghost use Rattle.rules.specs.Choose.{choosing};
@@ -21,6 +23,7 @@ pub enum Relaxed {
 }
 
 // Relaxes one record in its section. Refusals 1, 2, 3, 4, 6; a refusal and none change nothing.
+#[tactic(auto, using(rules::proofs::Theorem::same_meaning_of))]
 pub fn relax(section_bytes: &mut [u8], rel: Relocation) -> Relaxed
     ensures value { result ≡ relaxed_of (relaxing link_limit section_bytes.old rel) }
     ensures section_bytes_after { section_bytes.new ≡ after_relaxing section_bytes.old (relaxing link_limit section_bytes.old rel) }

@@ -1,7 +1,6 @@
 -- The code's `ValueFlags` in document 01's numbers. Assumes nothing.
 use Rattle.std.specs.Prelude.{ℕ}
 use Rattle.rules.specs.Answer.{Answer, gives, refuses}
-use Rattle.value_flags.specs.declared.ValueFlags.{ValueFlags}
 use Rattle.value_flags.specs.declared.ValueFlagsFound.{ValueFlagsFound}
 use Rattle.value_flags.specs.declared.ValueFlagsFound.TheVariants.{Is, Refused}
 

@@ -1,5 +1,7 @@
 // value_flags.rs: the five predicates that document 01's rules use, over 01's own flag number.
 // The Rust's bits are others (docs/DIFFERENCES.md).
+#![tactic(auto)]
+
 ghost use Rattle.std.specs.Prelude.{◌≡◌, not};
 ghost use Rattle.rules.specs.Record.{flag_number, is_n, absolute, dynamic, ifunc, is_k};
 ghost use Rattle.value_flags.specs.Flags.{flags_answer};

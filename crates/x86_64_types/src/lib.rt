@@ -1,4 +1,6 @@
 // x86_64.rs: the relocation types.
+#![tactic(auto)]
+
 ghost use Rattle.std.specs.Prelude.{◌≡◌};
 ghost use Rattle.rules.specs.Types.{lookup, later_types, find};
 ghost use Rattle.rules.specs.Psabi.{Conforms, LeftOutRows};

@@ -1,5 +1,5 @@
 use Rattle.std.proofs.Common.{◌≡◌, ◌+◌, ◌-◌, suc, refl, length, arith, ◌∙◌, length-set}
-use native.Mathlib.Nat.{sub_self, sub-zero}
+use native.Mathlib.Nat.{sub-zero}
 use Rattle.laws.proofs.Stores.{run_whole}
 use Rattle.rules.specs.Range.{low_first}
 use Rattle.rules.proofs.Fill.{length-low, low_part}

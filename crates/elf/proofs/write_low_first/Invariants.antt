@@ -9,7 +9,7 @@ invariant-loop-i l =
     record {
       inside : l.i ≤ length l.fn.output;
       keeps : length l.output ≡ length l.fn.output;
-      rest : sets l.output l.i (low_first (length l.fn.output - l.i) l.rest) ≡ low_first (length l.fn.output) l.value
+      rest : sets l.output l.i (low_first (length l.fn.output - l.i) l.rest) ≡ low_first (length l.fn.output) l.value;
     }
 
 abbrev pub decreases-loop-i : goal.decreases-loop-i

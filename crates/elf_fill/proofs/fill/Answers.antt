@@ -1,8 +1,6 @@
 -- Each return is one case of `filling`.
-use Rattle.std.proofs.Common.{◌≡◌, List, ℕ, sym, ◌∙◌, arith, refl}
-use Rattle.elf_fill.specs.declared.Filling.{Filling}
-use Rattle.elf_fill.specs.declared.Filling.TheVariants as answer
-use Rattle.elf_fill.proofs.Cases.{Does, refused, left_alone, long, over, missing, nothing, filled_by}
+use Rattle.std.proofs.Common.{sym, ◌∙◌, arith}
+use Rattle.elf_fill.proofs.Cases.{refused, left_alone, long, over, missing, nothing, filled_by}
 use Rattle.elf_fill.proofs.fill.Goals as goal
 
 pub returns-then-section_limit-section_bytes-clause-value : goal.returns-then-section_limit-section_bytes-clause-value
@@ -40,4 +38,3 @@ returns-in-Is-relocation_from_raw-clause-value c = let a = c.args in (let e = c.
 
 pub returns-in-Is-relocation_from_raw-clause-section_bytes_after : goal.returns-in-Is-relocation_from_raw-clause-section_bytes_after
 returns-in-Is-relocation_from_raw-clause-section_bytes_after c = let a = c.args in (let e = c.section_limit.ensures.value in left_alone a.section_bytes.now a.field (nothing a.section_bytes.now a.field (omega arith) (omega arith) c.in-Is-relocation_from_raw.ensures.value (sym c.is_filled-filled.ensures ∙ c.if-filled.false))).after
-
