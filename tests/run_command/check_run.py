@@ -144,7 +144,7 @@ def check_use():
     status, text, said = run("--help")
     same("--help", (status, said), (0, ""))
     same("-h", run("-h"), (0, text, ""))
-    for words in ("usage: ./run", "tools/case", "65,536 bytes", "530 KiB", "rt try relax_cases", "Exit status:"):
+    for words in ("usage: ./run", "tools/case", "65,536 bytes", "530 KiB", "rt try", "Exit status:"):
         same(f"{words} in --help", words in text.decode(), True)
     unwritten = "standard output wasn't written whole: No space left on device"
     expect("--help on a full device", run("--help", script='exec "$@" >/dev/full'), 5, b"", unwritten)
@@ -194,7 +194,7 @@ def copied(folder):
     rt = folder / "bin" / "rt"
     rt.parent.mkdir()
     version = f'if [ "$1" = version ]; then cat {folder}/found; exit; fi\n'
-    rt.write_text(f'#!/bin/bash\n{version}echo "$@" >>{folder}/calls\n. {folder}/does\n')
+    rt.write_text(f'#!/bin/bash\n{version}echo "${{PWD##*/}}: $@" >>{folder}/calls\n. {folder}/does\n')
     shutil.copy(ROOT / "KIT", folder / "found")
     rt.chmod(0o755)
     environment = {**os.environ, "PATH": f"{rt.parent}:{os.environ['PATH']}", "WAIT": "0"}
@@ -202,27 +202,28 @@ def copied(folder):
 
 
 def crates():
-    """How many crates relax_cases is made of."""
+    """The crates that relax_cases is made of, each after those that it uses, in the order of crates.txt."""
     rows = [line.split("#")[0].split(":") for line in (ROOT / "crates.txt").read_text().splitlines()]
-    needs = {row[0].strip(): row[1].split() for row in rows if len(row) == 2}
-    found, todo = [], ["relax_cases"]
-    while todo:
-        name = todo.pop()
-        if name in needs and name not in found:
-            found.append(name)
-            todo += needs[name]
-    return len(found)
+    needs = {row[0].split()[0]: row[1].split() for row in rows if len(row) == 2}
+
+    def below(name):
+        found = [other for used in needs[name] if used in needs for other in below(used)]
+        return list(dict.fromkeys([*found, name]))
+
+    return below("relax_cases")
 
 
-BUILT = 'mkdir -p target/bin && cp "$MADE_BY_GATE/relax_cases" target/bin/\n'
-PROVED = """echo 'fn laws::f: proved'
+COUNT = len(crates())
+BUILT = 'mkdir -p out && cp "$MADE_BY_GATE/relax_cases" out/\n'
+RUNNING = "echo 'rt: running out/relax_cases; to give it other input, run that file yourself'\n"
+UNCHANGED = "echo 'rt: nothing has changed since the last proved build, so nothing is checked now'\n" + RUNNING
+PROVED = f"""echo 'rt: chose --jobs 2 for laws'
+echo 'fn laws::f: proved'
 echo 'logic=proved functions=1 sum=0 native=nat'
-echo 'rt: laws proved (1 s)'
-echo 'rt: elf_kind proved (unchanged since it was last proved)'
+echo 'rt: x86_64_kind: begins with what a check kept in another folder'
 sleep "$WAIT"
-echo 'rt: rules proved (12 s)'
-echo "rt: relax_cases ran as nobody, and wrote what its file 'stdout' has (0 s)"
-"""
+echo 'rt: chose --jobs 1 for rules' >&2
+{RUNNING}"""
 
 
 def timeless(found):
@@ -230,15 +231,15 @@ def timeless(found):
     return *found[:2], re.sub(r"\(\d+ s\)", "(N s)", found[2])
 
 
-PROGRESS = [f"proved crate 1 of {crates()}: laws (N s)", f"proved crate 3 of {crates()}: rules (N s)"]
+PROGRESS = [f"proving crate {crates().index(name) + 1} of {COUNT}: {name} (N s)" for name in ("laws", "rules")]
 
 
 def check_proving(folder, environment):
     command, does = folder / "run", folder / "does"
     lines = (ROOT / "crates" / "relax_cases" / "stdout").read_bytes()
-    first = f"the first run proves {crates()} crates, which takes 2 to 4 minutes on 2 cores"
-    does.write_text("echo 'rt: laws proved (unchanged since it was last proved)'\n")
-    missing = "there is no program target/bin/relax_cases; if rt takes it for proved, remove target/ and run again"
+    first = f"the first run proves {COUNT} crates, which takes 2 to 4 minutes on 2 cores"
+    does.write_text(UNCHANGED)
+    missing = "there is no program crates/relax_cases/out/relax_cases"
     expect("a program that isn't there", run(command=command, env=environment), 1, b"", first, missing)
     (folder / "found").write_text("another kit\n")
     found = run(command=command, env=environment)
@@ -246,9 +247,11 @@ def check_proving(folder, environment):
     does.write_text(PROVED + BUILT)
     shutil.copy(ROOT / "KIT", folder / "found")
     expect("the first run", timeless(run(command=command, env=environment)), 0, lines, first, *PROGRESS)
-    does.write_text("echo 'rt: laws proved (unchanged since it was last proved)'\n")
+    does.write_text(UNCHANGED)
     expect("the second", run(command=command, env=environment), 0, lines)
-    same("what rt was asked", (folder / "calls").read_text(), "check relax_cases\n" * 4)
+    does.write_text(UNCHANGED + "exit 139\n")
+    expect("a program that rt can't run", run(command=command, env=environment), 0, lines)
+    same("what rt was asked", (folder / "calls").read_text(), "relax_cases: run\n" * 5)
 
     slow = command.read_text()
     same("the wait in ./run", slow.count("read -r -t 20 line"), 1)
@@ -262,17 +265,19 @@ def check_proving(folder, environment):
 
 
 def check_failures(folder, environment):
-    """A proof that fails, and words that can't be made."""
+    """A proof that fails or is cut off, where there is a program of before; and words that can't be made."""
     does = folder / "does"
-    does.write_text("seq 100\necho 'rt: laws NOT PROVED'\nexit 1\n")
-    found = run(command=folder / "run", env=environment)
-    log = [*map(str, range(62, 101)), "rt: laws NOT PROVED", "run: the case program is not proved: see target/run.log"]
-    same("a proof that fails", found, (1, b"", "\n".join(log) + "\n"))
+    for status in (1, 137):
+        does.write_text(f"seq 100\necho 'rt: the library laws did not build'\nexit {status}\n")
+        found = run(command=folder / "run", env=environment)
+        log = [*map(str, range(62, 101)), "rt: the library laws did not build"]
+        log.append("run: the case program is not proved: see target/run.log")
+        same(f"a proof that ends with {status}", found, (1, b"", "\n".join(log) + "\n"))
+        seen["status 1"] += 1
     does.write_text(PROVED)
     (folder / "tools" / "case").write_text("#!/bin/sh\nexit 7\n")
     found = timeless(run("--words", command=folder / "run", env=environment))
     expect("no words", found, 1, b"", *PROGRESS, "tools/case failed; it needs Python 3.9 or later")
-    seen["status 1"] += 1
 
 
 def check_interrupt(folder, environment):
@@ -310,14 +315,14 @@ def check_program(folder):
     expect("little stack", run(script='ulimit -s 256; exec "$@"'), 1, b"", died)
     program = folder / "relax_cases"
     environment = {**os.environ, "JITAMORO_BIN_DIR": str(folder)}
-    missing = f"there is no program {program}; if rt takes it for proved, remove target/ and run again"
+    missing = f"there is no program {program}"
     expect("no program", run(env=environment), 1, b"", missing)
     program.write_text("#!/bin/sh\nexit 0\n")
     program.chmod(0o755)
     expect("a silent program", run(env=environment), 1, b"", "the case program printed nothing")
 
 
-LEAST = {f"status {n}": least for n, least in enumerate((23, 7, 4, 5, 21, 19))}
+LEAST = {f"status {n}": least for n, least in enumerate((24, 8, 4, 5, 21, 19))}
 LEAST |= {"kept files": 11, "kept words": 3, "interrupts": 1}
 
 
