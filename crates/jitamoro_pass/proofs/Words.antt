@@ -9,7 +9,6 @@ use lib.Dec.{eqb, leb, ltb}
 use lib.ListN.{set}
 use borrow.Author.Tests.{leb-true, le-ltb}
 use Rattle.laws.proofs.Bools.{both}
-use Rattle.x86_64_kind.specs.Kinds.{is_empty}
 use Rattle.rules.specs.Answer.{Answer, gives, refuses, refusal_of, flag}
 use Rattle.rules.specs.declared.Relocation.{Relocation}
 use Rattle.rules.specs.Record.{link_limit, is_s}
@@ -51,7 +50,7 @@ module _ (p : Pass) (sec : List ℕ) (r : Relocation) (q : calm p r.offset ≡ t
 
   pub plain_step : stepping p sec r ≡ gives (took (outcome_by (chosen_by r)))
   unfolding stepping checked clearing claims
-  plain_step = rw (facts.0, admitted sec r plain, facts.2, facts.1, relaxes sec r plain) (clear _ (chosen_by r)) where
+  plain_step = rw (facts.0, admitted sec r plain, facts.2, facts.1, relaxes sec r plain) (clear p (chosen_by r)) where
     clear : (any : Pass) (c : Bool) → clearing any r (gives (outcome_by c)) ≡ gives (took (outcome_by c))
     clear any true = refl
     clear any false = refl

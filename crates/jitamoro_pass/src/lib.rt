@@ -1,5 +1,7 @@
 // Exported to C and Rust: the pass, which the caller holds in place. include/jitamoro.h says the same in C. The functions
 // take any arguments; a slice is passed as a pointer and a length.
+#![tactic(auto)]
+
 ghost use Rattle.std.specs.Prelude.{◌≡◌, ◌&&◌, [], ◌∷◌};
 ghost use Rattle.rules.specs.Answer.{refusal_of};
 ghost use Rattle.rules.specs.Record.{link_limit, relocation};
