@@ -1,5 +1,7 @@
 // Exported to C and Rust: a pass's step with the tally, whose 22 figures the caller holds beside the pass.
 // include/jitamoro.h says the same in C. The functions take any arguments.
+#![tactic(auto)]
+
 ghost use Rattle.std.specs.Prelude.{◌≡◌};
 ghost use Rattle.rules.specs.Record.{relocation};
 ghost use Rattle.rules.specs.Meaning.{SameMeaning};
@@ -16,6 +18,7 @@ use tally::Tally;
 // The tally of a pass before its first record. The contract also says that a walk by the exported functions is the
 // pass's own, of which `Tallies` and `Walks` speak.
 #[unsafe(no_mangle)]
+#[tactic(auto, using(crate::proofs::Held::held))]
 pub extern "C" fn jitamoro_tally_fresh() -> Tally
     ensures figures_value { result.figures ≡ fresh_tally }
     ensures held { Held }
