@@ -1,6 +1,8 @@
 // Exported to C and Rust: choosing. include/jitamoro.h says the same in C. The functions take any arguments; a
 // slice is passed as a pointer and a length. In an answer a refusal is 0, or a number of document 01, and then every other
 // field is 0.
+#![tactic(auto)]
+
 ghost use Rattle.std.specs.Prelude.{◌≡◌};
 ghost use Rattle.rules.specs.Record.{link_limit, relocation};
 ghost use Rattle.rules.specs.Choose.{choosing};
