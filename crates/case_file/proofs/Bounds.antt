@@ -10,7 +10,7 @@ use Rattle.io.specs.Digits.{hex_digit_ascii}
 use Rattle.x86_64_kind.specs.Kinds.{shape_of, skips}
 use Rattle.relax.specs.declared.Relaxed.{Relaxed}
 use Rattle.relax.specs.declared.Relaxed.TheVariants.{Nothing, Done, Refused}
-use Rattle.case_file.specs.Text.{decimal_in, decimal, signed_decimal, hex_of, hex}
+use Rattle.case_file.specs.Text.{decimal_in, decimal, signed_decimal, hex}
 use Rattle.rules.specs.Answer.{flag}
 use Rattle.case_file.specs.CaseFile.{field, none_word, refused_word, line_end, line}
 use Rattle.case_file.specs.Parts.{Bounds}

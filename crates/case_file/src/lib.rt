@@ -1,5 +1,7 @@
 // The case file of document 01: the text of a record's line, and of a whole file. The functions that
 // put text into a buffer answer the place after it.
+#![tactic(auto)]
+
 ghost use Rattle.std.specs.Prelude.{◌≡◌, not, [], ◌∷◌, ◌++◌, ◌+◌, ◌*◌, ◌≤◌, ◌<◌, min, length, nat_abs};
 ghost use Rattle.std.specs.Int.Signed.{non_neg};
 ghost use Rattle.std.proofs.lemmas.List.Edits.{sets};
@@ -9,7 +11,7 @@ ghost use Rattle.rules.specs.Rewrite.{relaxing, after_relaxing};
 ghost use Rattle.relax.specs.Answers.{relaxed_of};
 ghost use Rattle.relax.specs.declared.Relaxed.TheVariants as answer;
 ghost use Rattle.io.specs.Counts.{IsPrefixLen};
-ghost use Rattle.io.specs.Digits.{hex_digit_ascii as Digits·glyph};
+ghost use Rattle.io.specs.Digits.{hex_digit_ascii};
 ghost use Rattle.case_read.specs.Reading.{read_at};
 ghost use Rattle.case_file.specs.Text.{decimal, signed_decimal, hex};
 ghost use Rattle.case_file.specs.CaseFile.{field, line_end, line, section_of, record_of, line_of, lines, text};
@@ -120,7 +122,7 @@ fn put_hex(out: &mut [u8], at: usize, section: &[u8]) -> usize
 
 fn glyph(d: u8) -> u8
     requires { d < 16 }
-    ensures { result ≡ Digits·glyph d }
+    ensures { result ≡ hex_digit_ascii d }
 {
     if d < 10 { 48 + d } else { 87 + d }
 }

@@ -5,7 +5,7 @@ ghost use Rattle.std.specs.Prelude.{◌≡◌, ◌+◌, ◌≤◌, length, take,
 ghost use Rattle.case_read.specs.Reading.{number, case_at, read_at};
 
 // A record as the file has it: the addend as it stands, and where the section lies.
-#[derive(Drop)]
+#[derive(Clone, Copy)]
 pub struct Case {
     pub r_type: u8,
     pub flags: u8,
@@ -19,7 +19,7 @@ pub struct Case {
 }
 
 // What stands at a place: nothing, a record that is refused with 10 to 13, or a whole record.
-#[derive(Drop)]
+#[derive(Clone, Copy)]
 pub enum Read {
     End,
     Torn(u8),

@@ -1,6 +1,9 @@
+#![tactic(auto)]
+
 // The case program: reads a case file from standard input, relaxes each record alone, and prints a
 // line for each. At most 65,536 bytes are read.
 const STDIN_FILENO: i32 = 0;
+
 const STDOUT_FILENO: i32 = 1;
 
 fn main() {

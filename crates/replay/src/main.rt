@@ -17,6 +17,8 @@
 //  10 fill: type, length lent, offset, address (8), value (8), addend (8), 0 (none), 255 (filled) or the refusal, ten bytes
 //     of a buffer
 // Numbers stand low byte first; buffers hold A5 before.
+#![tactic(auto)]
+
 use elf::{AllowedRange, ByteWidth, DynamicRelocationKind, Sign};
 use elf_fill::Filling;
 use elf_x86_64_plt::PltEntry;
