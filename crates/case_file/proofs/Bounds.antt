@@ -7,7 +7,7 @@ use lib.Dec.{ltb, lit≤}
 use lib.IntN.{ℤ, pos, negsuc}
 use lib.ListN.{length, length-append}
 use Rattle.io.specs.Digits.{hex_digit_ascii}
-use Rattle.x86_64_kind.specs.Kinds.{shape_of, skips}
+use Rattle.x86_64_kind.specs.Kinds.{skips}
 use Rattle.relax.specs.declared.Relaxed.{Relaxed}
 use Rattle.relax.specs.declared.Relaxed.TheVariants.{Nothing, Done, Refused}
 use Rattle.case_file.specs.Text.{decimal_in, decimal, signed_decimal, hex}
@@ -67,7 +67,7 @@ line_bound : (n : ℕ) (a : Relaxed) (s : List ℕ) → length (line n a s) ≤ 
 unfolding line
 line_bound n (Done x m) s =
     with_section s (lit≤ tt)
-    (joined (joined (joined (joined (joined (joined (joined (fields n) (fields (shape_of x.kind).number)) (fields (shape_of x.kind).inst_offset)) (fields m.offset)) (joined (signs m.addend) (one 32))) (fields x.new_type)) (fields (flag (skips x.kind)))) (fields (flag x.mandatory)))
+    (joined (joined (joined (joined (joined (joined (joined (fields n) (fields _)) (fields _)) (fields m.offset)) (joined (signs m.addend) (one 32))) (fields x.new_type)) (fields (flag (skips x.kind)))) (fields (flag x.mandatory)))
 line_bound n Nothing s = with_section s (lit≤ tt) (joined (fields n) words.0)
 line_bound n (Refused k) s = with_section s (lit≤ tt) (joined (joined (fields n) words.1) (fields k))
 

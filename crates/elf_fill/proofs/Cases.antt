@@ -10,8 +10,12 @@ use Rattle.rules.specs.Record.{link_limit}
 use Rattle.rules.specs.Range.{contains, signed64, low_first}
 use Rattle.rules.specs.Types.{Row, lookup, earlier_types, later_types}
 use Rattle.rules.specs.Choose.{in_range}
-use Rattle.rules.specs.Fill.{fills, field_value, Fill, unfilled, filled, filling, after_filling}
-use Rattle.rules.proofs.Fill.{length-low, of_four}
+use Rattle.rules.specs.Fill.{fills, field_value, Fill, unfilled, filled, filling, after_filling, Fills}
+use Rattle.rules.specs.Meaning.{SameMeaning}
+use Rattle.rules.specs.Records.{FillWorked}
+use Rattle.rules.proofs.Fill.{length-low, of_four, exact}
+use Rattle.rules.proofs.Theorem.{same_meaning_of}
+use Rattle.rules.proofs.Records.{fill_worked}
 use Rattle.elf.specs.declared.RelocationKindInfo.{RelocationKindInfo}
 use Rattle.elf.specs.Elf.{range_of, info_from}
 use Rattle.elf.proofs.Back.{range_back}
@@ -64,18 +68,22 @@ unfolding lookup earlier_types later_types
 four t r q k = eqb-true r.size 4 (rw q at (of_four (λ (t : ℕ). whether (λ (r : Row). eqb r.size 4) (lookup t) ≡ true) t refl refl refl refl k))
 
 module _ (sec : List ℕ) (f : Field) where
-  -- an answer and the section that it leaves
-  pub record Does (x : Filling) (new : List ℕ) : Type 0 where
-    pub value : x ≡ filling_of (filling link_limit sec f)
-    pub after : new ≡ after_filling sec (filling link_limit sec f)
+  -- the clauses of `fill`, of an answer and the section that it leaves
+  abbrev Does : Filling → List ℕ → Type 0
+  Does x new =
+      (x ≡ filling_of (filling link_limit sec f))
+      × ((new ≡ after_filling sec (filling link_limit sec f)) × (Fills link_limit sec f × (((sec : List ℕ) → SameMeaning sec) × FillWorked)))
+
+  pub does : {x : Filling} {new : List ℕ} → x ≡ filling_of (filling link_limit sec f) → new ≡ after_filling sec (filling link_limit sec f) → Does x new
+  does p q = (p, (q, (exact link_limit sec f, (same_meaning_of, fill_worked))))
 
   pub refused : {n : ℕ} → filling link_limit sec f ≡ refuses n → Does (answer.Refused n) sec
   unfolding after_filling
-  refused e = record { value = rw e; after = rw e }
+  refused e = does (rw e) (rw e)
 
   pub left_alone : filling link_limit sec f ≡ gives unfilled → Does answer.Nothing sec
   unfolding after_filling
-  left_alone e = record { value = rw e; after = rw e }
+  left_alone e = does (rw e) (rw e)
 
   pub long : 268435456 < length sec → filling link_limit sec f ≡ refuses 1
   unfolding filling
@@ -137,4 +145,4 @@ module _ (sec : List ℕ) (f : Field) (within : length sec ≤ 268435456) (low :
       → Does sec f x (back sec at new)
   filled_by e k u p q =
       let b = put_back sec at _ _ (written_is e k) in
-      record { value = rw u at p ∙ b.0; after = ap (back sec at) (rw u at q) ∙ b.1 }
+      does sec f (rw u at p ∙ b.0) (ap (back sec at) (rw u at q) ∙ b.1)

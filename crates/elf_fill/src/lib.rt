@@ -25,7 +25,6 @@ pub enum Filling {
 // Fills a field of type 2, 10, 11 or 23; other types that the lookup knows are none. Refusals 1, 2, 7, 16, 15; a refusal
 // and none change nothing. Where it says done, the section is document 01's Filled, and exactly there; and after relaxing
 // a record the machine ends alike on the old instruction and on the new one.
-#[tactic(auto, using(rules::proofs::Fill::exact, rules::proofs::Theorem::same_meaning_of, rules::proofs::Records::fill_worked))]
 pub fn fill(section_bytes: &mut [u8], field: Field) -> Filling
     ensures value { result ≡ filling_of (filling link_limit section_bytes.old field) }
     ensures section_bytes_after { section_bytes.new ≡ after_filling section_bytes.old (filling link_limit section_bytes.old field) }

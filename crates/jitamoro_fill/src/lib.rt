@@ -1,5 +1,7 @@
 // Exported to C and Rust: filling a field. include/jitamoro.h says the same in C. The function takes any arguments; a slice
 // is passed as a pointer and a length.
+#![tactic(auto)]
+
 ghost use Rattle.std.specs.Prelude.{◌≡◌, List, ℕ};
 ghost use Rattle.rules.specs.Record.{link_limit};
 ghost use Rattle.rules.specs.Fill.{field, filling, after_filling, Fills};

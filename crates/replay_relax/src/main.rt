@@ -8,6 +8,8 @@
 // 32 section length, 33 section (40); and the answer: 73 refusal, 74 whether there is more, 75 kind, 76 instruction offset,
 // 77 new type (4), 81 mandatory, 82 skip, 83 needs_got_fallback, 84 new offset (8),
 // 92 new addend (8), 100 section (40). What an answer doesn't have is 0.
+#![tactic(auto)]
+
 use answers::{ChoiceAnswer, RelaxedAnswer};
 use elf_x86_64_relaxation::{Choice, Relaxation};
 use hex_lines::{byte, more, print_count, u32_at, u64_at};

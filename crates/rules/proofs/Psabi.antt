@@ -1,5 +1,5 @@
--- Every answer of the lookup conforms to the ps_abi: one list of what the 39 rows hold, one of what the ps_abi states of their numbers, and
--- antt computes that the two are the same; and the ps_abi's numbers, without those of the 39 rows, are the numbers left out.
+-- Every answer of the lookup conforms to the psABI: one list of what the 39 rows hold, one of what the psABI states of their numbers, and
+-- antt computes that the two are the same; and the psABI's numbers, without those of the 39 rows, are the numbers left out.
 -- Assumes nothing.
 use mathlib.Core.Path.{◌≡◌, refl, ap, sym, ◌∙◌}
 use mathlib.Core.Bool.{Bool, true, false, cond, ◌||◌}

@@ -1,6 +1,6 @@
--- The System V AMD64 ps_abi's own table of relocation types (section 4.4.1, the edition with the APX types 43 to 51), and how the lookup's
+-- The System V AMD64 psABI's own table of relocation types (section 4.4.1, the edition with the APX types 43 to 51), and how the lookup's
 -- rows are held against it.
--- A calculation is a sum of the ps_abi's letters; two calculations are the same where each letter has the same factor.
+-- A calculation is a sum of the psABI's letters; two calculations are the same where each letter has the same factor.
 -- Assumes nothing.
 use Rattle.std.specs.Prelude.{Bool, true, false, cond, ◌||◌, ◌≡◌, List, [], ◌∷◌, map, ℕ, ◌+◌, ◌^◌, ◌*◌, ◌-◌, eqb, ℤ, pos, ◌+ℤ◌, ◌-ℤ◌, length}
 use Prim.Native.String.{String}
@@ -12,7 +12,7 @@ use Rattle.elf_kind.specs.declared.RelocationKind.TheVariants.{TlsGd, TlsLd, Dtp
 use Rattle.rules.specs.Types.{Row, types, dynamic_types}
 
 -- A the addend, B the base address, G the offset of the symbol's GOT entry, GOT the GOT's address, L the symbol's PLT entry, P the place,
--- S the symbol, Z its size. For the thread-local types the table's column is empty; the documents that the ps_abi names for them (ELF
+-- S the symbol, Z its size. For the thread-local types the table's column is empty; the documents that the psABI names for them (ELF
 -- Handling for Thread-Local Storage, TLS descriptors) say in words what is put there: the address of the symbol's GD pair, of the LD pair,
 -- of the GOT entry that holds the offset from the thread pointer, of the descriptor; the offset in the module's block, from the thread
 -- pointer; the module's number. Each is a letter here. RESOLVED is "indirect (B + A)", PAIR a descriptor's two words
@@ -150,7 +150,7 @@ abbrev find : List Listed → ℕ → Listed
 find [] t = entry t "" 0 nothing
 find (e ∷ es) t = cond (eqb t e.number) e (find es t)
 
--- whether the ps_abi lists a number, and its row
+-- whether the psABI lists a number, and its row
 abbrev pub numbers : List ℕ
 numbers = map (λ (e : Listed). e.number) table
 
@@ -160,7 +160,7 @@ is_listed t = among t numbers
 unfoldable pub psabi : ℕ → Listed
 psabi t = find table t
 
--- the ps_abi's types that the lookup refuses: those that only a dynamic linker meets (5 to 8, 16, 18, 36 to 38), and two that wild leaves
+-- the psABI's types that the lookup refuses: those that only a dynamic linker meets (5 to 8, 16, 18, 36 to 38), and two that wild leaves
 -- out (28, 30)
 unfoldable pub left_out_types : List ℕ
 left_out_types = 5 ∷ 6 ∷ 7 ∷ 8 ∷ 16 ∷ 18 ∷ 28 ∷ 30 ∷ 36 ∷ 37 ∷ 38 ∷ []
@@ -190,12 +190,12 @@ holds TlsDesc = sum TLSDESC ⊕ A ⊖ P
 holds TlsDescCall = nothing
 holds None = nothing
 
--- the calculation that the ps_abi states. Departure: GOTPC32 and GOTPC64 are Relative, which is right where the symbol is _GLOBAL_OFFSET_TABLE_,
+-- the calculation that the psABI states. Departure: GOTPC32 and GOTPC64 are Relative, which is right where the symbol is _GLOBAL_OFFSET_TABLE_,
 -- that is where S stands for GOT
 unfoldable pub stated_value : ℕ → Sum
 stated_value t = cond (eqb t 26 || eqb t 29) ((psabi t).calculation ⊖ GOT ⊕ S) (psabi t).calculation
 
--- its range: the ps_abi says of type 10 that its value is zero-extended, of type 11 that it is sign-extended, and of no other. The port takes
+-- its range: the psABI says of type 10 that its value is zero-extended, of type 11 that it is sign-extended, and of no other. The port takes
 -- signed fields, with departures: types 3 and 32 are unsigned; types 12 and 14 take both readings of their field
 unfoldable pub stated_range : ℕ → Range
 stated_range t =
@@ -211,7 +211,7 @@ pub record Facts : Type 0 where
   pub value : List ℤ
   pub extent : Range
 
--- what a row of the lookup has, and what the ps_abi states of a number
+-- what a row of the lookup has, and what the psABI states of a number
 abbrev pub row_facts : Row → Facts
 row_facts r = record { listed = true; left = false; width = r.size; value = factors (holds r.kind); extent = r.range }
 
@@ -219,7 +219,7 @@ abbrev pub psabi_facts : ℕ → Facts
 psabi_facts t =
     record { listed = is_listed t; left = is_left_out t; width = (psabi t).field; value = factors (stated_value t); extent = stated_range t }
 
--- the ps_abi's types are parted exactly: a number that it lists is answered, by a row that agrees, or left out, and never both; a number
+-- the psABI's types are parted exactly: a number that it lists is answered, by a row that agrees, or left out, and never both; a number
 -- that it doesn't list is neither
 pub data Conforms (t : ℕ) : Answer Row → Type 0 where
   agrees : {r : Row} → row_facts r ≡ psabi_facts t → Conforms t (gives r)
@@ -241,7 +241,7 @@ pub record LeftOutRows : Type 0 where
   -- DTPMOD64, TLSDESC and IRELATIVE hold a value of their own, with no addend
   pub own : map factors_of (16 ∷ 36 ∷ 37 ∷ []) ≡ factors (sum MODULE) ∷ factors (sum PAIR) ∷ factors (sum RESOLVED) ∷ []
 
--- the dynamic types by the ps_abi's names
+-- the dynamic types by the psABI's names
 pub record DynamicNames : Type 0 where
   pub names :
       map (λ (t : ℕ). (psabi t).name) dynamic_types
