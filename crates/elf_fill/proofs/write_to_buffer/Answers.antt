@@ -1,5 +1,5 @@
 use borrow.Author.Rules.{sfits_of}
-use Rattle.std.proofs.Common.{◌≡◌, true, to_z-of_z, w64, arith, le-ltb, sym, ◌∙◌}
+use Rattle.std.proofs.Common.{◌≡◌, true, length, to_z-of_z, w64, arith, le-ltb, sym, ◌∙◌}
 use Rattle.rules.specs.Range.{contains, signed64}
 use Rattle.elf.specs.Elf.{range_of}
 use Rattle.rules.specs.Fill.{after_filling}
@@ -11,4 +11,4 @@ unfolding after_filling
 returns-then-verified-clause-output_after c =
     let a = c.args in
     let v : contains (range_of a.info.range) (signed64 a.value) ≡ true = sym (c.verify-verified.ensures ∙ rw (to_z-of_z {w = w64} (sfits_of {w = w64} c.as_i64.type_inv), c.as_i64.ensures)) ∙ c.if-verified.true in
-    rw (le-ltb _ _ c.if-output-byte_size.false, v, c.write_low_first.ensures.output_after) (prefix a.info.size.byte_size a.value a.output.now (omega arith))
+    rw (le-ltb (length a.output.now) a.info.size.byte_size (omega arith), v, c.write_low_first.ensures.output_after) (prefix a.info.size.byte_size a.value a.output.now (omega arith))
