@@ -237,7 +237,7 @@ PROGRESS = [f"proving crate {crates().index(name) + 1} of {COUNT}: {name} (N s)"
 def check_proving(folder, environment):
     command, does = folder / "run", folder / "does"
     lines = (ROOT / "crates" / "relax_cases" / "stdout").read_bytes()
-    first = f"the first run proves {COUNT} crates, which takes 2 to 4 minutes on 2 cores"
+    first = f"the first run proves {COUNT} crates, which takes a few minutes"
     does.write_text(UNCHANGED)
     missing = "there is no program crates/relax_cases/out/relax_cases"
     expect("a program that isn't there", run(command=command, env=environment), 1, b"", first, missing)
