@@ -189,3 +189,11 @@ module _ (sec : List ℕ) (r : Relocation) (a : RelaxedAnswer) (e : Settled a �
   chosen_too =
       let s = settles sec r is_plain_at.0 in
       ap (λ (x : RelaxedAnswer). x.choice) (answers ∙ s.0) ∙ sym s.2
+
+-- a record that passes every test is plain, and its numbers settle it
+pub settled_by : (sec : List ℕ) (r : Relocation)
+    → length sec ≤ 268435456 → r.offset ≤ length sec → r.r_type < 9 → r.flags ≤ 15 → r.output_kind ≤ 5
+    → plain_of (is_plain sec r) (relaxed_layout (relaxed_of (relaxing link_limit sec r))) ≡ Settled (settled_of r)
+settled_by sec r short inside low few known =
+    let plain : is_plain sec r ≡ true = rw (le-leb _ _ short, le-leb _ _ inside, lt-ltb _ _ low, le-leb _ _ few, le-leb _ _ known) in
+    rw (plain, (settles sec r plain).0)

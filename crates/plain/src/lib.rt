@@ -19,6 +19,7 @@ pub enum Plain {
 }
 
 // What relaxing answers for a plain record; no byte of its section changes.
+#[tactic(auto, using(crate::proofs::Numbers::settled_by))]
 pub fn settle(section_bytes: &[u8], rel: Relocation) -> Plain
     ensures { result ≡ plain_of (is_plain section_bytes.now rel) (relaxed_layout (relaxed_of (relaxing link_limit section_bytes.now rel))) }
 {

@@ -1,6 +1,6 @@
 -- Each return is one case of `plt_answer` and `plt_bytes`.
 -- Assumes nothing.
-use Rattle.std.proofs.Common.{◌≡◌, ◌∙◌, sym, Bool, ℕ, ℤ, eq-eqb, to_z, of_z, to_z-of_z, w64, rules}
+use Rattle.std.proofs.Common.{◌≡◌, length, arith, ◌∙◌, sym, Bool, ℕ, ℤ, eq-eqb, to_z, of_z, to_z-of_z, w64, rules}
 use borrow.Author.Rules.{sfits_of}
 use Rattle.rules.specs.Range.{byte_range, contains, signed, signed64}
 use Rattle.rules.specs.Plt.{plt_answer, plt_bytes, in_reach, displacement}
@@ -16,22 +16,22 @@ pub returns-then-near-clause-result_value : goal.returns-then-near-clause-result
 unfolding plt_answer
 returns-then-near-clause-result_value c =
     let near = reach c.args.got_address c.args.plt_address _ _ _ _ c.plt_displacement-displacement.ensures (to_z-of_z {w = w64} (sfits_of {w = w64} c.as_i64-offset.type_inv)) c.as_i64-offset.ensures c.from_byte_size.ensures.value c.contains-near.ensures in
-    rw (eq-eqb _ 16 c.if-plt_entry-ne16.false, near, c.if-near.true)
+    rw (eq-eqb (length c.args.plt_entry.now) 16 (omega arith), near, c.if-near.true)
 
 pub returns-then-near-clause-plt_entry_after : goal.returns-then-near-clause-plt_entry_after
 unfolding plt_bytes
 returns-then-near-clause-plt_entry_after c =
     let near = reach c.args.got_address c.args.plt_address _ _ _ _ c.plt_displacement-displacement.ensures (to_z-of_z {w = w64} (sfits_of {w = w64} c.as_i64-offset.type_inv)) c.as_i64-offset.ensures c.from_byte_size.ensures.value c.contains-near.ensures in
-    rw (eq-eqb _ 16 c.if-plt_entry-ne16.false, near, c.if-near.true) (c.write_entry.ensures ∙ rw c.plt_displacement-displacement.ensures)
+    rw (eq-eqb (length c.args.plt_entry.now) 16 (omega arith), near, c.if-near.true) (c.write_entry.ensures ∙ rw c.plt_displacement-displacement.ensures)
 
 pub returns-clause-result_value : goal.returns-clause-result_value
 unfolding plt_answer
 returns-clause-result_value c =
     let near = reach c.args.got_address c.args.plt_address _ _ _ _ c.plt_displacement-displacement.ensures (to_z-of_z {w = w64} (sfits_of {w = w64} c.as_i64-offset.type_inv)) c.as_i64-offset.ensures c.from_byte_size.ensures.value c.contains-near.ensures in
-    rw (eq-eqb _ 16 c.if-plt_entry-ne16.false, near, c.if-near.false)
+    rw (eq-eqb (length c.args.plt_entry.now) 16 (omega arith), near, c.if-near.false)
 
 pub returns-clause-plt_entry_after : goal.returns-clause-plt_entry_after
 unfolding plt_bytes
 returns-clause-plt_entry_after c =
     let near = reach c.args.got_address c.args.plt_address _ _ _ _ c.plt_displacement-displacement.ensures (to_z-of_z {w = w64} (sfits_of {w = w64} c.as_i64-offset.type_inv)) c.as_i64-offset.ensures c.from_byte_size.ensures.value c.contains-near.ensures in
-    rw (eq-eqb _ 16 c.if-plt_entry-ne16.false, near, c.if-near.false) (search rules)
+    rw (eq-eqb (length c.args.plt_entry.now) 16 (omega arith), near, c.if-near.false) (search rules)
