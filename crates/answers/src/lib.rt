@@ -1,20 +1,21 @@
 // What choosing, rewriting and relaxing answer, in the layout of the exported functions.
+// Kept: C's structs have a refusal as its number, and the fields of what isn't given as 0.
 #![tactic(auto)]
 
-ghost use Rattle.std.specs.Prelude.{◌≡◌, ◌*◌, ◌^◌, ◌≤◌, ◌<◌};
-ghost use Rattle.rules.specs.Answer.{flag};
-ghost use Rattle.answers.specs.Layout.{flag_bytes, chosen_not, chosen_layout, choice_layout, moved_layout, relaxed_not, relaxed_layout};
+ghost use Rattle.std.specs.Prelude.{◌≡◌};
+ghost use Rattle.answers.specs.Layout.{chosen_layout, refused_layout, choice_layout, moved_layout, relaxed_layout};
 
-use elf_x86_64_relaxation::{Choice, Relaxation};
+use elf_x86_64_relaxation::Relaxation;
+use refusal::Refusal;
 use relax::Relaxed;
-use x86_64_apply::Applied;
+use x86_64_apply::Moved;
 
 // A choice. The bytes of `head`, low byte first: the refusal; then, where a kind was chosen, 1, the kind, its
 // instruction offset, mandatory, skip the next relocation, needs a GOT fallback; and 0. One number, so that an answer
 // takes few stores. C and Rust have a field for each of the seven, at the same places: there the struct ends after
 // `new_type`, 4 bytes earlier, which shows neither in two registers nor before the offset of `RelaxedAnswer`.
 #[repr(C)]
-#[derive(Clone, Copy)]
+#[derive(Clone, Copy, Debug, Default, PartialEq, Eq, Hash)]
 pub struct ChoiceAnswer {
     pub head: u64,
     pub new_type: u32,
@@ -22,7 +23,7 @@ pub struct ChoiceAnswer {
 
 // Where the field lies after rewriting, and its addend.
 #[repr(C)]
-#[derive(Clone, Copy)]
+#[derive(Clone, Copy, Debug, Default, PartialEq, Eq, Hash)]
 pub struct MovedAnswer {
     pub refusal: u8,
     pub offset: u64,
@@ -31,109 +32,85 @@ pub struct MovedAnswer {
 
 // A choice that was carried out, with where the field lies now. Refusals stand in the choice.
 #[repr(C)]
-#[derive(Clone, Copy)]
+#[derive(Clone, Copy, Debug, Default, PartialEq, Eq, Hash)]
 pub struct RelaxedAnswer {
     pub choice: ChoiceAnswer,
     pub offset: u64,
     pub addend: i64,
 }
 
-pub fn choice_answer(choice: Choice) -> ChoiceAnswer
-    ensures { result ≡ choice_layout choice }
-{
-    match choice {
-        Choice::Nothing => not_chosen(0),
-        Choice::Chosen(relaxation) => chosen_answer(relaxation),
-        Choice::Refused(n) => not_chosen(n),
+impl From<Result<Option<Relaxation>, Refusal>> for ChoiceAnswer {
+    ghost from_gives = { λ choice answer. answer ≡ choice_layout choice };
+
+    fn from(choice: Result<Option<Relaxation>, Refusal>) -> ChoiceAnswer {
+        match choice {
+            Ok(Some(relaxation)) => chosen(relaxation),
+            Ok(None) => ChoiceAnswer::default(),
+            Err(refusal) => refused(refusal),
+        }
     }
 }
 
-pub fn moved_answer(applied: Applied) -> MovedAnswer
-    ensures { result ≡ moved_layout applied }
-{
-    match applied {
-        Applied::Done(moved) => MovedAnswer {
-            refusal: 0,
-            offset: moved.offset,
-            addend: moved.addend,
-        },
-        Applied::Refused(n) => MovedAnswer {
-            refusal: n,
-            offset: 0,
-            addend: 0,
-        },
+impl From<Result<Moved, Refusal>> for MovedAnswer {
+    ghost from_gives = { λ moved answer. answer ≡ moved_layout moved };
+
+    fn from(moved: Result<Moved, Refusal>) -> MovedAnswer {
+        match moved {
+            Ok(Moved { offset, addend }) => MovedAnswer {
+                refusal: 0,
+                offset,
+                addend,
+            },
+            Err(refusal) => MovedAnswer {
+                refusal: refusal.number(),
+                ..MovedAnswer::default()
+            },
+        }
     }
 }
 
-pub fn relaxed_answer(relaxed: Relaxed) -> RelaxedAnswer
-    ensures { result ≡ relaxed_layout relaxed }
-{
-    match relaxed {
-        Relaxed::Nothing => not_relaxed(0),
-        Relaxed::Done(relaxation, moved) => RelaxedAnswer {
-            choice: chosen_answer(relaxation),
-            offset: moved.offset,
-            addend: moved.addend,
-        },
-        Relaxed::Refused(n) => not_relaxed(n),
+impl From<Result<Option<Relaxed>, Refusal>> for RelaxedAnswer {
+    ghost from_gives = { λ relaxed answer. answer ≡ relaxed_layout relaxed };
+
+    fn from(relaxed: Result<Option<Relaxed>, Refusal>) -> RelaxedAnswer {
+        match relaxed {
+            Ok(Some(Relaxed { relaxation, moved })) => RelaxedAnswer {
+                choice: chosen(relaxation),
+                offset: moved.offset,
+                addend: moved.addend,
+            },
+            Ok(None) => RelaxedAnswer::default(),
+            Err(refusal) => RelaxedAnswer {
+                choice: refused(refusal),
+                ..RelaxedAnswer::default()
+            },
+        }
     }
 }
 
-// None, or a refusal.
-fn not_relaxed(refusal: u8) -> RelaxedAnswer
-    ensures { result ≡ relaxed_not refusal }
-{
-    RelaxedAnswer {
-        choice: not_chosen(refusal),
-        offset: 0,
-        addend: 0,
-    }
-}
-
-fn not_chosen(refusal: u8) -> ChoiceAnswer
-    ensures { result ≡ chosen_not refusal }
-{
-    ChoiceAnswer {
-        head: wide(refusal),
-        new_type: 0,
-    }
-}
-
-fn chosen_answer(relaxation: Relaxation) -> ChoiceAnswer
+fn chosen(relaxation: Relaxation) -> ChoiceAnswer
     ensures { result ≡ chosen_layout relaxation }
 {
-    let kind = relaxation.kind;
-    let flags = flag_bytes(
-        relaxation.is_mandatory(),
-        relaxation.next_modifier().is_skip(),
-        relaxation.needs_got_fallback(),
-    );
     ChoiceAnswer {
-        head: 256 + wide(kind.number()) * 0x1_0000 + wide(kind.inst_offset()) * 0x100_0000 + flags,
+        head: u64::from_le_bytes([
+            0,
+            1,
+            relaxation.kind.number(),
+            relaxation.kind.inst_offset(),
+            u8::from(relaxation.is_mandatory()),
+            u8::from(relaxation.next_modifier().is_skip()),
+            u8::from(relaxation.needs_got_fallback()),
+            0,
+        ]),
         new_type: relaxation.new_type,
     }
 }
 
-// Bytes 4, 5 and 6.
-fn flag_bytes(mandatory: bool, skip_next: bool, needs_got_fallback: bool) -> u64
-    ensures value { result ≡ flag_bytes mandatory skip_next needs_got_fallback }
-    ensures upper_bound { result ≤ 2 ^ 49 }
+fn refused(refusal: Refusal) -> ChoiceAnswer
+    ensures { result ≡ refused_layout refusal }
 {
-    weigh(mandatory, 0x1_0000_0000)
-        + weigh(skip_next, 0x100_0000_0000)
-        + weigh(needs_got_fallback, 0x1_0000_0000_0000)
-}
-
-fn weigh(set: bool, weight: u64) -> u64
-    ensures value { result ≡ flag set * weight }
-    ensures upper_bound { result ≤ weight }
-{
-    if set { weight } else { 0 }
-}
-
-fn wide(x: u8) -> u64
-    ensures value { result ≡ x }
-    ensures upper_bound { result < 2 ^ 8 }
-{
-    x as u64
+    ChoiceAnswer {
+        head: u64::from(refusal.number()),
+        new_type: 0,
+    }
 }

@@ -1,6 +1,4 @@
 pub mod Puts
 pub mod Decimals
-pub mod Signs
-pub mod Lines
-pub mod Sample
 pub mod Bounds
+pub mod Sample

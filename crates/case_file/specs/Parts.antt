@@ -1,31 +1,41 @@
--- What printing one record of a file gives: its text, the next place, and room for the rest; and how long a line can be. Assumes nothing.
-use Rattle.std.specs.Prelude.{◌≡◌, List, ℕ, ◌+◌, ◌-◌, ◌*◌, ◌≤◌, ◌<◌, length}
+-- What putting a text into a lent buffer does; and how long a line can be. Assumes nothing.
+use Rattle.std.specs.Prelude.{List, ℕ, ◌+◌, ◌*◌, ◌≤◌, length, [], ◌∷◌, Option, Result, Ok, Err}
 use Rattle.std.proofs.lemmas.List.Edits.{sets}
+use Rattle.rules.specs.Answer.{Answer}
+use Rattle.case_read.specs.Record.{Record}
+use Rattle.refusal.specs.declared.Refusal.{Refusal}
 use Rattle.relax.specs.declared.Relaxed.{Relaxed}
-use Rattle.case_read.specs.declared.Read.{Read}
-use Rattle.case_file.specs.declared.Next.{Next}
-use Rattle.case_file.specs.CaseFile.{line, text_of, place_after}
+use Rattle.case_file.specs.declared.Text.{Text}
+use Rattle.case_file.specs.CaseFile.{line}
 
--- `new` is `old` with the text at a place, and `next` is the place after it; it takes `most` bytes or fewer
-pub record Puts (old : List ℕ) (at : ℕ) (text : List ℕ) (most : ℕ) (new : List ℕ) (next : ℕ) : Type 0 where
-  pub bytes : new ≡ sets old at text
-  pub place : next ≡ at + length text
-  pub bound : next ≤ at + most
-  pub size : length new ≡ length old
+-- a text more, after what is written; the rest of the buffer as it was
+unfoldable pub put : Text → List ℕ → Text
+put t text =
+    record t { out = record t.out { now = sets t.out.now t.len text }; len = t.len + length text }
 
--- a line takes 171 bytes at most, and two for each byte of its section; a record takes 26 and its section, so that 171 bytes, and 7 for
--- each byte of the file that is left, are room enough
-abbrev pub room_from : ℕ → List ℕ → ℕ → ℕ
-room_from at file place = at + 171 + 7 * (length file - place)
+-- how many bytes are written, and how many the buffer takes
+unfoldable pub written : Text → ℕ
+written t = t.len
 
-pub record PutsNext (old : List ℕ) (at : ℕ) (file : List ℕ) (n : ℕ) (read : Read) (new : List ℕ) (next : Next) : Type 0 where
-  pub bytes : new ≡ sets old at (text_of file n read)
-  pub at_next : next.at ≡ at + length (text_of file n read)
-  pub place_next : next.place ≡ place_after file read
-  pub bound : next.at ≤ length new
-  pub room : next.place < length file → room_from next.at file next.place ≤ length new
-  pub size : length new ≡ length old
+unfoldable pub capacity : Text → ℕ
+capacity t = length t.out.now
+
+-- room for a text more
+abbrev pub HasRoom : Text → List ℕ → Type 0
+HasRoom t text = written t + length text ≤ capacity t
+
+-- the most bytes that a record's line takes, and room for the lines of some records
+abbrev pub most_of : Answer Record → ℕ
+most_of (Ok c) = 171 + 2 * length c.section
+most_of (Err e) = 171
+
+abbrev pub most_of_all : List (Answer Record) → ℕ
+most_of_all [] = 0
+most_of_all (r ∷ rs) = most_of r + most_of_all rs
+
+abbrev pub HasRoomFor : Text → List (Answer Record) → Type 0
+HasRoomFor t rs = written t + most_of_all rs ≤ capacity t
 
 -- the longest possible line, whatever the number, the answer and the section
 pub record Bounds : Type 0 where
-  pub line_bound : (n : ℕ) (a : Relaxed) (s : List ℕ) → length (line n a s) ≤ 171 + 2 * length s
+  pub line_bound : (n : ℕ) (a : Result (Option Relaxed) Refusal) (s : List ℕ) → length (line n a s) ≤ 171 + 2 * length s

@@ -1,303 +1,199 @@
-// The case file of document 01: the text of a record's line, and of a whole file. The functions that
-// put text into a buffer answer the place after it.
+// The case file of document 01: the text of a record's line, and of a whole file.
 #![tactic(auto)]
 
-ghost use Rattle.std.specs.Prelude.{◌≡◌, not, [], ◌∷◌, ◌++◌, ◌+◌, ◌*◌, ◌≤◌, ◌<◌, min, length, nat_abs};
-ghost use Rattle.std.specs.Int.Signed.{non_neg};
+ghost use Rattle.std.specs.Prelude.{◌≡◌, ◌+◌, ◌≤◌, [], ◌∷◌, length, take, Ok, Err};
 ghost use Rattle.std.proofs.lemmas.List.Edits.{sets};
-ghost use Rattle.rules.specs.Answer.{flag};
-ghost use Rattle.rules.specs.Record.{link_limit};
-ghost use Rattle.rules.specs.Rewrite.{relaxing, after_relaxing};
-ghost use Rattle.relax.specs.Answers.{relaxed_of};
-ghost use Rattle.relax.specs.declared.Relaxed.TheVariants as answer;
 ghost use Rattle.io.specs.Counts.{IsPrefixLen};
-ghost use Rattle.io.specs.Digits.{hex_digit_ascii};
-ghost use Rattle.case_read.specs.Reading.{read_at};
-ghost use Rattle.case_file.specs.Text.{decimal, signed_decimal, hex};
-ghost use Rattle.case_file.specs.CaseFile.{field, line_end, line, section_of, record_of, line_of, lines, text};
+ghost use Rattle.case_read.specs.Reading.{records};
+ghost use Rattle.case_file.specs.Text.{decimal, signed_decimal, hex, spaced};
+ghost use Rattle.case_file.specs.CaseFile.{field, line_end, moved_fields, relaxed_fields, fields, line, line_of, lines, text};
 ghost use Rattle.case_file.specs.Sample.{SampleHolds};
-ghost use Rattle.case_file.specs.Parts.{Puts, room_from, PutsNext, Bounds};
+ghost use Rattle.case_file.specs.Parts.{written, capacity, put, HasRoom, most_of, HasRoomFor, Bounds};
 
-use case_read::{Case, Read};
-use elf_x86_64_relaxation::Relaxation;
+use case_read::{Case, Records};
+use refusal::Refusal;
 use relax::Relaxed;
-use rules::Relocation;
 use x86_64_apply::Moved;
 
-// ---- Text
-
-fn put_byte(out: &mut [u8], at: usize, b: u8) -> usize
-    requires { at < length out.old }
-    ensures { Puts out.old at (b ∷ []) 1 out.new result }
-{
-    out[at] = b;
-    at + 1
+// A text at the start of a lent buffer.
+// Kept: a length beside the buffer, since nothing is put on the heap.
+#[derive(Drop)]
+struct Text<'a> {
+    out: &'a mut [u8],
+    len: usize,
 }
 
-fn put_bytes(out: &mut [u8], at: usize, bytes: &[u8]) -> usize
-    requires { at + length bytes.now ≤ length out.old }
-    ensures { Puts out.old at bytes.now (length bytes.now) out.new result }
-{
-    let mut i = 0;
-    while i < bytes.len() {
-        out[at + i] = bytes[i];
-        i += 1;
+impl Text<'_> {
+    // ---- Words
+
+    #[tactic(auto, unfolding(crate::specs::Parts::put, crate::specs::Parts::written, crate::specs::Parts::capacity))]
+    fn put_byte(&mut self, b: u8)
+        requires { HasRoom self.old (b ∷ []) }
+        ensures { self.new ≡ put self.old (b ∷ []) }
+    {
+        self.out[self.len] = b;
+        self.len += 1;
     }
-    at + i
-}
 
-fn put_decimal(out: &mut [u8], at: usize, n: u64) -> usize
-    requires { at + 20 ≤ length out.old }
-    ensures { Puts out.old at (decimal n) 20 out.new result }
-{
-    let mut digits = [0u8; 20];
-    let k = io::decimal(n, &mut digits);
-    put_bytes(out, at, &digits[..k])
-}
-
-// A number and a space.
-fn put_field(out: &mut [u8], at: usize, n: u64) -> usize
-    requires { at + 21 ≤ length out.old }
-    ensures { Puts out.old at (field n) 21 out.new result }
-{
-    let next = put_decimal(out, at, n);
-    put_byte(out, next, b' ')
-}
-
-// The addend and a space.
-fn put_addend(out: &mut [u8], at: usize, moved: Moved) -> usize
-    requires { at + 22 ≤ length out.old }
-    ensures { Puts out.old at (signed_decimal moved.addend ++ (32 ∷ [])) 22 out.new result }
-{
-    let addend = moved.addend;
-    let negative = is_negative(addend);
-    let size = magnitude(addend);
-    if negative {
-        let next = put_byte(out, at, b'-');
-        return put_field(out, next, size);
+    #[tactic(auto, using(crate::proofs::Puts::parts), unfolding(crate::specs::Parts::put, crate::specs::Parts::written, crate::specs::Parts::capacity))]
+    fn put_bytes(&mut self, bytes: &[u8])
+        requires { HasRoom self.old bytes.now }
+        ensures { self.new ≡ put self.old bytes.now }
+    {
+        let end = self.len + bytes.len();
+        self.out[self.len..end].copy_from_slice(bytes);
+        self.len = end;
     }
-    put_field(out, at, size)
-}
 
-fn is_negative(z: i64) -> bool
-    ensures { result ≡ not (non_neg z) }
-{
-    z < 0
-}
-
-fn magnitude(z: i64) -> u64
-    ensures { result ≡ nat_abs z }
-{
-    if z < 0 {
-        return (!z) as u64 + 1;
+    // A word and a space.
+    #[tactic(auto, using(crate::proofs::Puts::texts), unfolding(crate::specs::Text::spaced))]
+    fn put_word(&mut self, word: &[u8])
+        requires { HasRoom self.old (spaced word.now) }
+        ensures { self.new ≡ put self.old (spaced word.now) }
+    {
+        self.put_bytes(word);
+        self.put_byte(b' ');
     }
-    z as u64
-}
 
-// The section in hexadecimal, and the line's end.
-fn put_line_end(out: &mut [u8], at: usize, section: &[u8]) -> usize
-    requires { at + 2 * length section.now + 2 ≤ length out.old }
-    ensures { Puts out.old at (line_end section.now) (2 * length section.now + 2) out.new result }
-{
-    let next = put_hex(out, at, section);
-    put_byte(out, next, b'\n')
-}
-
-fn put_hex(out: &mut [u8], at: usize, section: &[u8]) -> usize
-    requires { at + 2 * length section.now + 1 ≤ length out.old }
-    ensures { Puts out.old at (hex section.now) (2 * length section.now + 1) out.new result }
-{
-    if section.len() == 0 {
-        return put_byte(out, at, b'-');
+    #[tactic(auto, using(crate::proofs::Decimals::decimals))]
+    fn put_field(&mut self, n: u64)
+        requires { HasRoom self.old (field n) }
+        ensures { self.new ≡ put self.old (field n) }
+    {
+        self.put_word(itoa::Buffer::new().format(n).as_bytes());
     }
-    let mut i = 0;
-    while i < section.len() {
-        let b = section[i];
-        out[at + 2 * i] = glyph(b / 16);
-        out[at + 2 * i + 1] = glyph(b % 16);
-        i += 1;
-    }
-    at + 2 * i
-}
 
-fn glyph(d: u8) -> u8
-    requires { d < 16 }
-    ensures { result ≡ hex_digit_ascii d }
-{
-    if d < 10 { 48 + d } else { 87 + d }
-}
-
-// ---- Lines
-
-fn put_line(out: &mut [u8], at: usize, number: u64, relaxed: Relaxed, section: &[u8]) -> usize
-    requires { at + 171 + 2 * length section.now ≤ length out.old }
-    ensures { Puts out.old at (line number relaxed section.now) (171 + 2 * length section.now) out.new result }
-{
-    match relaxed {
-        Relaxed::Nothing => put_none(out, at, number, section),
-        Relaxed::Done(relaxation, moved) => put_relaxed(
-            out, at, number, relaxation, moved, section,
-        ),
-        Relaxed::Refused(refusal) => put_refused(out, at, number, refusal, section),
-    }
-}
-
-fn put_none(out: &mut [u8], at: usize, number: u64, section: &[u8]) -> usize
-    requires { at + 171 + 2 * length section.now ≤ length out.old }
-    ensures { Puts out.old at (line number answer.Nothing section.now) (171 + 2 * length section.now) out.new result }
-{
-    let at1 = put_field(out, at, number);
-    let at2 = put_bytes(out, at1, b"none ");
-    put_line_end(out, at2, section)
-}
-
-fn put_refused(out: &mut [u8], at: usize, number: u64, refusal: u8, section: &[u8]) -> usize
-    requires { at + 171 + 2 * length section.now ≤ length out.old }
-    ensures { Puts out.old at (line number (answer.Refused refusal) section.now) (171 + 2 * length section.now) out.new result }
-{
-    let at1 = put_field(out, at, number);
-    let at2 = put_bytes(out, at1, b"refused ");
-    let at3 = put_field(out, at2, refusal as u64);
-    put_line_end(out, at3, section)
-}
-
-// Number, kind, instruction offset, new offset, new addend, new type, skip, mandatory, section.
-fn put_relaxed(
-    out: &mut [u8],
-    at: usize,
-    number: u64,
-    relaxation: Relaxation,
-    moved: Moved,
-    section: &[u8],
-) -> usize
-    requires { at + 171 + 2 * length section.now ≤ length out.old }
-    ensures { Puts out.old at (line number (answer.Done relaxation moved) section.now) (171 + 2 * length section.now) out.new result }
-{
-    let kind = relaxation.kind;
-    let at1 = put_field(out, at, number);
-    let at2 = put_field(out, at1, kind.number() as u64);
-    let at3 = put_field(out, at2, kind.inst_offset() as u64);
-    let at4 = put_field(out, at3, moved.offset);
-    let at5 = put_addend(out, at4, moved);
-    let at6 = put_field(out, at5, relaxation.new_type as u64);
-    let at7 = put_field(out, at6, as_number(relaxation.next_modifier().is_skip()));
-    let at8 = put_field(out, at7, as_number(relaxation.is_mandatory()));
-    put_line_end(out, at8, section)
-}
-
-fn as_number(b: bool) -> u64
-    ensures { result ≡ flag b }
-{
-    if b { 1 } else { 0 }
-}
-
-// ---- A whole file
-
-// Relaxes the record of a case alone, in a copy of its section.
-fn relax_case(file: &[u8], case: Case, section: &mut [u8]) -> Relaxed
-    requires { (case.start + case.len ≤ length file.now) × (length section.old ≡ case.len) }
-    ensures value { result ≡ relaxed_of (relaxing link_limit (section_of file.now case) (record_of case)) }
-    ensures section_after { section.new ≡ after_relaxing (section_of file.now case) (relaxing link_limit (section_of file.now case) (record_of case)) }
-    ensures section_len { length section.new ≡ case.len }
-{
-    let start = case.start;
-    let end = start + case.len;
-    put_bytes(section, 0, &file[start..end]);
-    relax::relax(section, record_of(case))
-}
-
-fn record_of(case: Case) -> Relocation
-    ensures { result ≡ record_of case }
-{
-    Relocation {
-        r_type: case.r_type as u32,
-        offset: case.offset,
-        flags: case.flags,
-        output_kind: case.output_kind,
-        executable: case.executable,
-        address: case.address,
-        addend: elf::as_i64(case.addend),
-    }
-}
-
-// The line of a case, relaxed in a buffer as long as its section.
-fn put_relaxing(
-    out: &mut [u8],
-    at: usize,
-    number: u64,
-    file: &[u8],
-    case: Case,
-    section: &mut [u8],
-) -> usize
-    requires { (case.start + case.len ≤ length file.now) × (length section.old ≡ case.len) × (at + 171 + 2 * case.len ≤ length out.old) }
-    ensures { Puts out.old at (line_of file.now number case) (171 + 2 * case.len) out.new result }
-{
-    let relaxed = relax_case(file, case, section);
-    put_line(out, at, number, relaxed, section)
-}
-
-fn put_case(out: &mut [u8], at: usize, number: u64, file: &[u8], case: Case) -> usize
-    requires { (case.start + case.len ≤ length file.now) × (case.len ≤ 4096) × (at + 171 + 2 * case.len ≤ length out.old) }
-    ensures { Puts out.old at (line_of file.now number case) (171 + 2 * case.len) out.new result }
-{
-    let mut section = io::buffer();
-    let len = case.len;
-    put_relaxing(out, at, number, file, case, &mut section[..len])
-}
-
-// The place after a record, and where its text ends.
-#[derive(Clone, Copy)]
-struct Next {
-    place: usize,
-    at: usize,
-}
-
-fn put_next(out: &mut [u8], at: usize, number: u64, file: &[u8], place: usize) -> Next
-    requires { room_from at file.now place ≤ length out.old }
-    ensures { PutsNext out.old at file.now number (read_at file.now place) out.new result }
-{
-    match case_read::read_at(file, place) {
-        Read::End => Next {
-            place: file.len(),
-            at: at,
-        },
-        Read::Torn(refusal) => {
-            let next = put_refused(out, at, number, refusal, &file[..0]);
-            Next {
-                place: file.len(),
-                at: next,
-            }
+    #[tactic(auto, using(crate::proofs::Puts::parts), unfolding(crate::specs::Parts::put, crate::specs::Parts::written, crate::specs::Parts::capacity, crate::specs::Text::hex))]
+    fn put_hex(&mut self, section: &[u8])
+        requires { HasRoom self.old (hex section.now) }
+        ensures { self.new ≡ put self.old (hex section.now) }
+    {
+        if section.is_empty() {
+            return self.put_byte(b'-');
         }
-        Read::Whole(case) => {
-            let next = put_case(out, at, number, file, case);
-            Next {
-                place: case.start + case.len,
-                at: next,
-            }
+        let end = self.len + 2 * section.len();
+        hex::encode_to_slice(section, &mut self.out[self.len..end]).unwrap();
+        self.len = end;
+    }
+
+    // ---- Lines
+
+    #[tactic(auto, using(crate::proofs::Puts::texts), unfolding(crate::specs::CaseFile::line))]
+    fn put_line(&mut self, number: u64, relaxed: Result<Option<Relaxed>, Refusal>, section: &[u8])
+        requires { HasRoom self.old (line number relaxed section.now) }
+        ensures { self.new ≡ put self.old (line number relaxed section.now) }
+    {
+        self.put_field(number);
+        self.put_fields(relaxed);
+        self.put_line_end(section);
+    }
+
+    fn put_fields(&mut self, relaxed: Result<Option<Relaxed>, Refusal>)
+        requires { HasRoom self.old (fields relaxed) }
+        ensures { self.new ≡ put self.old (fields relaxed) }
+    {
+        match relaxed {
+            Ok(Some(relaxed)) => self.put_relaxed(relaxed),
+            Ok(None) => self.put_word(b"none"),
+            Err(refusal) => self.put_refused(refusal),
         }
     }
-}
 
-fn put_lines(out: &mut [u8], file: &[u8]) -> usize
-    requires { room_from 0 file.now 0 ≤ length out.old }
-    ensures out_after { out.new ≡ sets out.old 0 (lines file.now (length file.now) 1 0) }
-    ensures value { result ≡ length (lines file.now (length file.now) 1 0) }
-    ensures upper_bound { result ≤ length out.new }
-{
-    let mut place = 0;
-    let mut number = 1;
-    let mut at = 0;
-    while place < file.len() {
-        let next = put_next(out, at, number, file, place);
-        place = next.place;
-        at = next.at;
-        number += 1;
+    // Kind, instruction offset, new offset, new addend, new type, skip, mandatory.
+    #[tactic(auto, using(crate::proofs::Puts::texts), unfolding(crate::specs::CaseFile::relaxed_fields))]
+    fn put_relaxed(&mut self, relaxed: Relaxed)
+        requires { HasRoom self.old (relaxed_fields relaxed) }
+        ensures { self.new ≡ put self.old (relaxed_fields relaxed) }
+    {
+        let Relaxed { relaxation, moved } = relaxed;
+        self.put_field(relaxation.kind.number().into());
+        self.put_field(relaxation.kind.inst_offset().into());
+        self.put_moved(moved);
+        self.put_field(relaxation.new_type.into());
+        self.put_field(relaxation.next_modifier().is_skip().into());
+        self.put_field(relaxation.is_mandatory().into());
     }
-    at
+
+    #[tactic(auto, using(crate::proofs::Puts::texts, crate::proofs::Decimals::signed_decimals), unfolding(crate::specs::CaseFile::moved_fields))]
+    fn put_moved(&mut self, moved: Moved)
+        requires { HasRoom self.old (moved_fields moved) }
+        ensures { self.new ≡ put self.old (moved_fields moved) }
+    {
+        self.put_field(moved.offset);
+        self.put_word(itoa::Buffer::new().format(moved.addend).as_bytes());
+    }
+
+    #[tactic(auto, using(crate::proofs::Puts::texts))]
+    fn put_refused(&mut self, refusal: Refusal)
+        requires { HasRoom self.old (fields (Err refusal)) }
+        ensures { self.new ≡ put self.old (fields (Err refusal)) }
+    {
+        self.put_word(b"refused");
+        self.put_field(refusal.number().into());
+    }
+
+    // The section in hexadecimal, and the line's end.
+    #[tactic(auto, using(crate::proofs::Puts::texts), unfolding(crate::specs::CaseFile::line_end))]
+    fn put_line_end(&mut self, section: &[u8])
+        requires { HasRoom self.old (line_end section.now) }
+        ensures { self.new ≡ put self.old (line_end section.now) }
+    {
+        self.put_hex(section);
+        self.put_byte(b'\n');
+    }
+
+    // ---- A whole file
+
+    #[tactic(auto, using(crate::proofs::Puts::texts))]
+    fn put_records(&mut self, file: &[u8])
+        requires { HasRoomFor self.old (records file.now) }
+        ensures lines { self.new ≡ put self.old (lines 1 (records file.now)) }
+        ensures bound { written self.new ≤ capacity self.new }
+    {
+        for (index, read) in Records::new(file).enumerate() {
+            self.put_record(index as u64 + 1, read);
+        }
+    }
+
+    #[tactic(auto, using(crate::proofs::Bounds::line_bound), unfolding(crate::specs::CaseFile::line_of))]
+    fn put_record(&mut self, number: u64, read: Result<Case<'_>, Refusal>)
+        requires { written self.old + most_of read ≤ capacity self.old }
+        ensures line { self.new ≡ put self.old (line_of number read.entry) }
+        ensures bound { length (line_of number read.entry) ≤ most_of read.entry }
+    {
+        match read {
+            Ok(case) => self.put_case(number, case),
+            Err(refusal) => self.put_line(number, Err(refusal), &[]),
+        }
+    }
+
+    fn put_case(&mut self, number: u64, case: Case<'_>)
+        requires { written self.old + most_of (Ok case) ≤ capacity self.old }
+        ensures line { self.new ≡ put self.old (line_of number (Ok case.entry)) }
+        ensures bound { length (line_of number (Ok case.entry)) ≤ most_of (Ok case.entry) }
+    {
+        let mut copy = [0; 4096];
+        self.put_relaxing(number, &case, &mut copy[..case.section.len()]);
+    }
+
+    // Relaxes the record of a case alone, in a copy of its section.
+    #[tactic(auto, using(crate::proofs::Bounds::line_bound), unfolding(crate::specs::CaseFile::line_of))]
+    fn put_relaxing(&mut self, number: u64, case: &Case<'_>, copy: &mut [u8])
+        requires room { written self.old + most_of (Ok case.now) ≤ capacity self.old }
+        requires len { length copy.old ≡ length case.now.section }
+        ensures line { self.new ≡ put self.old (line_of number (Ok case.now)) }
+        ensures bound { length (line_of number (Ok case.now)) ≤ most_of (Ok case.now) }
+    {
+        copy.copy_from_slice(case.section);
+        let relaxed = relax::relax(copy, case.into());
+        self.put_line(number, relaxed, copy);
+    }
 }
 
 // The text of a case file, of which at most 65,536 bytes count, at the start of `out`, and how long
 // it is. The contract ends with how long a line can be, and with document 01's sample.
+// Kept: a fixed buffer and the text's length, since the library has no heap and printing cannot fail.
+#[tactic(auto, using(crate::proofs::Bounds::room, crate::proofs::Bounds::bounds, crate::proofs::Sample::sample_holds), unfolding(crate::specs::CaseFile::text, crate::specs::Parts::put, crate::specs::Parts::written, crate::specs::Parts::capacity))]
 pub fn print_cases(file: &[u8], out: &mut [u8; 458923]) -> usize
     ensures out_after { out.new ≡ sets out.old 0 (text file.now) }
     ensures value { result ≡ length (text file.now) }
@@ -305,13 +201,15 @@ pub fn print_cases(file: &[u8], out: &mut [u8; 458923]) -> usize
     ensures bounds { Bounds }
     ensures sample_holds { SampleHolds }
 {
-    let most = counted(file.len());
-    put_lines(out, &file[..most])
+    let mut text = Text { out, len: 0 };
+    text.put_records(first_bytes(file, 65536));
+    text.len
 }
 
-// How many bytes of a file count.
-fn counted(len: usize) -> usize
-    ensures { result ≡ min len 65536 }
+// The first bytes of a file, `most` of them where it has more.
+fn first_bytes(file: &[u8], most: usize) -> &[u8]
+    ensures value { result.now ≡ take most file.now }
+    ensures bound { length result.now ≤ most }
 {
-    if len < 65536 { len } else { 65536 }
+    file.get(..most).unwrap_or(file)
 }

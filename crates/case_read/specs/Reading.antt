@@ -1,47 +1,66 @@
--- Document 01, 'Case file': what stands at a place of a file. Assumes nothing.
-use Rattle.std.specs.Prelude.{Bool, not, cond, ◌&&◌, List, [], ◌∷◌, ℕ, ◌+◌, ◌-◌, ◌*◌, eqb, leb, ltb, length, get_or, take, drop}
-use Rattle.case_read.specs.declared.Case.{Case}
-use Rattle.case_read.specs.declared.Read.{Read}
-use Rattle.case_read.specs.declared.Read.TheVariants.{End, Torn, Whole}
+-- Document 01, 'Case file': the records of a file. Assumes nothing.
+use Rattle.std.specs.Prelude.{Bool, not, cond, ◌&&◌, List, [], ◌∷◌, ℕ, zero, suc, ◌+◌, ◌-◌, eqb, leb, ltb, length, slice_index, take, drop, Option, Some, None, Ok, Err}
+use Rattle.std.specs.Int.{w16, w64, from_le_bytes}
+use Rattle.refusal.specs.declared.Refusal.TheVariants.{WrongMark, FileEndsInside, ExecutableByte, RecordTooLong}
+use Rattle.rules.specs.Answer.{Answer}
+use Rattle.case_read.specs.Record.{Record}
 
--- "all low byte first"
-abbrev pub number : List ℕ → ℕ
-number [] = 0
-number (b ∷ s) = b + 256 * number s
+-- ---- a record, at the start of these bytes
 
-module _ (file : List ℕ) (at : ℕ) where
-  -- byte k of a record, and a number of w bytes there
+module _ (bytes : List ℕ) where
   abbrev pub byte_of : ℕ → ℕ
-  byte_of k = get_or file (at + k) 0
+  byte_of k = slice_index bytes k
 
-  abbrev pub number_of : ℕ → ℕ → ℕ
-  number_of k w = number (take w (drop (at + k) file))
+  -- "all low byte first": numbers of two bytes and of eight
+  abbrev pub two_of : ℕ → ℕ
+  two_of k = from_le_bytes w16 (take 2 (drop k bytes))
+
+  abbrev pub eight_of : ℕ → ℕ
+  eight_of k = from_le_bytes w64 (take 8 (drop k bytes))
 
   -- "mark 52 58"
   abbrev pub marked : Bool
   marked = eqb (byte_of 0) 0x52 && eqb (byte_of 1) 0x58
 
   -- "then type, flags, output kind, executable (a byte each), offset and length (2 each), address and addend (8 each) .., then the section"
-  abbrev pub case_at : Case
-  case_at =
+  abbrev pub case_of : Record
+  case_of =
       record {
         r_type = byte_of 2;
         flags = byte_of 3;
         output_kind = byte_of 4;
         executable = eqb (byte_of 5) 1;
-        offset = number_of 6 2;
-        address = number_of 10 8;
-        addend = number_of 18 8;
-        start = at + 26;
-        len = number_of 8 2;
+        offset = two_of 6;
+        address = eight_of 10;
+        addend = eight_of 18;
+        section = take (two_of 8) (drop 26 bytes);
       }
 
-  -- "File: no byte left ends it; 11 when 1 to 25 bytes remain, then 10, 12, 13, then 11 when the section bytes are short"
-  unfoldable pub read_at : Read
-  read_at =
-      cond (leb (length file) at) End
-      (cond (ltb (length file - at) 26) (Torn 11)
-      (cond (not marked) (Torn 10)
-      (cond (ltb 1 (byte_of 5)) (Torn 12)
-      (cond (ltb 4096 (number_of 8 2)) (Torn 13)
-      (cond (ltb (length file - at - 26) (number_of 8 2)) (Torn 11) (Whole case_at))))))
+  -- "11 when 1 to 25 bytes remain, then 10, 12, 13, then 11 when the section bytes are short"
+  unfoldable pub first : Answer Record
+  first =
+      cond (ltb (length bytes) 26) (Err FileEndsInside)
+      (cond (not marked) (Err WrongMark)
+      (cond (ltb 1 (byte_of 5)) (Err ExecutableByte)
+      (cond (ltb 4096 (two_of 8)) (Err RecordTooLong)
+      (cond (ltb (length bytes - 26) (two_of 8)) (Err FileEndsInside) (Ok case_of)))))
+
+-- ---- a file
+
+-- "File: no byte left ends it"
+abbrev pub read_at : List ℕ → ℕ → Option (Answer Record)
+read_at file at = cond (leb (length file) at) None (Some (first (drop at file)))
+
+-- what is left after a record: after 10 to 13 "reading stops"
+abbrev pub rest_after : List ℕ → Answer Record → List ℕ
+rest_after bytes (Ok c) = drop (26 + length c.section) bytes
+rest_after bytes (Err e) = []
+
+-- the records of these bytes, k of them at most
+abbrev pub records_in : ℕ → List ℕ → List (Answer Record)
+records_in zero bytes = []
+records_in (suc k) bytes = cond (eqb (length bytes) 0) [] (first bytes ∷ records_in k (rest_after bytes (first bytes)))
+
+-- one after the other; there are no more records than bytes
+unfoldable pub records : List ℕ → List (Answer Record)
+records file = records_in (length file) file

@@ -1,12 +1,18 @@
-// The case file of document 01: reading the record at a place.
+// The case file of document 01: the records of a file, one after the other.
 #![tactic(auto)]
 
-ghost use Rattle.std.specs.Prelude.{◌≡◌, ◌+◌, ◌≤◌, length, take, drop};
-ghost use Rattle.case_read.specs.Reading.{number, case_at, read_at};
+ghost use Rattle.std.specs.Prelude.{◌≡◌, ◌+◌, ◌≤◌, length, take, drop, IfOk};
+ghost use Rattle.std.specs.Result.{ForOk};
+ghost use Rattle.std.specs.Int.{w64, from_le_bytes};
+ghost use Rattle.case_read.specs.Reading.{first, read_at, rest_after, records};
 
-// A record as the file has it: the addend as it stands, and where the section lies.
-#[derive(Clone, Copy)]
-pub struct Case {
+use refusal::Refusal;
+use rules::Relocation;
+use std::marker::Model;
+
+// A record as the file has it: the addend as it stands.
+#[derive(Drop)]
+pub struct Case<'a> {
     pub r_type: u8,
     pub flags: u8,
     pub output_kind: u8,
@@ -14,75 +20,155 @@ pub struct Case {
     pub offset: u64,
     pub address: u64,
     pub addend: u64,
-    pub start: usize,
-    pub len: usize,
+    pub section: &'a [u8],
 }
 
-// What stands at a place: nothing, a record that is refused with 10 to 13, or a whole record.
-#[derive(Clone, Copy)]
-pub enum Read {
-    End,
-    Torn(u8),
-    Whole(Case),
+// A clause sees the section's bytes.
+impl<'a> Model for Case<'a> {
+    ghost use Rattle.std.specs.Prelude.{◌≤◌, length};
+    ghost use Rattle.case_read.specs.Record.{Record};
+
+    ghost Value = { Record };
+
+    ghost view = { λ c. record { r_type = c.r_type; flags = c.flags; output_kind = c.output_kind; executable = c.executable; offset = c.offset; address = c.address; addend = c.addend; section = c.section.now } };
+
+    ghost invariant = { λ c. length c.section.now ≤ 4096 };
 }
 
-// The record at a place of a file. Refusals 11, 10, 12, 13, 11.
-#[tactic(auto, unfolding(crate::specs::Reading::read_at))]
-pub fn read_at(file: &[u8], at: usize) -> Read
+impl Case<'_> {
+    // How many bytes of the file it takes.
+    fn size(&self) -> usize
+        ensures { result ≡ 26 + length self.now.section }
+    {
+        26 + self.section.len()
+    }
+}
+
+// The addend is read as signed.
+impl From<&Case<'_>> for Relocation {
+    ghost use Rattle.case_read.specs.Record.{record_of};
+
+    ghost from_gives = { λ c r. r ≡ record_of c.now };
+
+    fn from(case: &Case<'_>) -> Relocation {
+        Relocation {
+            r_type: case.r_type.into(),
+            offset: case.offset,
+            flags: case.flags,
+            output_kind: case.output_kind,
+            executable: case.executable,
+            address: case.address,
+            addend: elf::as_i64(case.addend),
+        }
+    }
+}
+
+// The record at a place of a file, if one stands there. Refusals 11, 10, 12, 13, 11.
+pub fn read_at(file: &[u8], at: usize) -> Option<Result<Case<'_>, Refusal>>
     ensures { result ≡ read_at file.now at }
 {
     if file.len() <= at {
-        return Read::End;
+        return None;
     }
-    let left = file.len() - at;
-    if left < 26 {
-        return Read::Torn(11);
-    }
-    let marked = (file[at] == 0x52) & (file[at + 1] == 0x58);
-    if marked {
-        if 1 < file[at + 5] {
-            return Read::Torn(12);
-        }
-        let case = case_at(file, at);
-        let len = case.len;
-        if 4096 < len {
-            return Read::Torn(13);
-        }
-        if left - 26 < len {
-            return Read::Torn(11);
-        }
-        return Read::Whole(case);
-    }
-    Read::Torn(10)
+    Some(first(&file[at..]))
 }
 
-fn case_at(file: &[u8], at: usize) -> Case
-    requires { at + 26 ≤ length file.now }
-    ensures { result ≡ case_at file.now at }
-{
-    Case {
-        r_type: file[at + 2],
-        flags: file[at + 3],
-        output_kind: file[at + 4],
-        executable: file[at + 5] == 1,
-        offset: number_at(file, at + 6, 2),
-        address: number_at(file, at + 10, 8),
-        addend: number_at(file, at + 18, 8),
-        start: at + 26,
-        len: number_at(file, at + 8, 2) as usize,
+// The records of a file, one after the other; none after one that is refused.
+#[derive(Drop)]
+pub struct Records<'a> {
+    rest: &'a [u8],
+}
+
+// A clause sees the records that are still to come.
+impl<'a> Model for Records<'a> {
+    ghost use Rattle.std.specs.Prelude.{List};
+    ghost use Rattle.rules.specs.Answer.{Answer};
+    ghost use Rattle.case_read.specs.Record.{Record};
+    ghost use Rattle.case_read.specs.Reading.{records};
+
+    ghost Value = { List (Answer Record) };
+
+    ghost view = { λ r. records r.rest.now };
+}
+
+impl<'a> Records<'a> {
+    #[tactic(auto, using(crate::proofs::Rest::few))]
+    pub fn new(file: &'a [u8]) -> Self
+        ensures value { result ≡ records file.now }
+        ensures bound { length result ≤ length file.now }
+    {
+        Records { rest: file }
     }
 }
 
-// A number of `width` bytes, low byte first.
-fn number_at(file: &[u8], at: usize, width: usize) -> u64
-    requires { (at + width ≤ length file.now) × (width ≤ 8) }
-    ensures { result ≡ number (take width (drop at file.now)) }
-{
-    let mut i = width;
-    let mut value = 0;
-    while 0 < i {
-        i -= 1;
-        value = value * 256 + file[at + i] as u64;
+impl<'a> Iterator for Records<'a> {
+    ghost use Rattle.std.specs.Iterator.{YieldsFirst, item_count};
+
+    type Item = Result<Case<'a>, Refusal>;
+
+    ghost next_gives = { YieldsFirst (λ r. r) };
+
+    ghost remaining = { item_count (λ r. r) };
+
+    #[tactic(auto, using(crate::proofs::Rest::next, crate::proofs::Rest::no_more))]
+    fn next(&mut self) -> Option<Result<Case<'a>, Refusal>> {
+        if self.rest.is_empty() {
+            return None;
+        }
+        let read = first(self.rest);
+        self.rest = rest_after(self.rest, &read);
+        Some(read)
     }
-    value
+}
+
+// What is left after the first record.
+fn rest_after<'a>(bytes: &'a [u8], read: &Result<Case<'_>, Refusal>) -> &'a [u8]
+    requires { ForOk read.now (λ c. 26 + length c.section ≤ length bytes.now) }
+    ensures { result.now ≡ rest_after bytes.now read.now }
+{
+    match read {
+        Ok(case) => &bytes[case.size()..],
+        Err(_) => &[],
+    }
+}
+
+// The record at the start of these bytes.
+#[tactic(auto, unfolding(crate::specs::Reading::first))]
+fn first(bytes: &[u8]) -> Result<Case<'_>, Refusal>
+    ensures value { result ≡ first bytes.now }
+    ensures within { IfOk result (λ c. 26 + length c.section ≤ length bytes.now) }
+{
+    if bytes.len() < 26 {
+        return Err(Refusal::FileEndsInside);
+    }
+    let [0x52, 0x58, r_type, flags, output_kind, executable, ..] = *bytes else {
+        return Err(Refusal::WrongMark);
+    };
+    if 1 < executable {
+        return Err(Refusal::ExecutableByte);
+    }
+    let len = u16::from_le_bytes(part(bytes, 8)) as usize;
+    if 4096 < len {
+        return Err(Refusal::RecordTooLong);
+    }
+    Ok(Case {
+        r_type,
+        flags,
+        output_kind,
+        executable: executable == 1,
+        offset: u16::from_le_bytes(part(bytes, 6)).into(),
+        address: u64::from_le_bytes(part(bytes, 10)),
+        addend: u64::from_le_bytes(part(bytes, 18)),
+        section: bytes.get(26..26 + len).ok_or(Refusal::FileEndsInside)?,
+    })
+}
+
+// The bytes of a number at a place.
+fn part<const N: usize>(bytes: &[u8], at: usize) -> [u8; N]
+    requires { at + N ≤ length bytes.now }
+    ensures { result ≡ take N (drop at bytes.now) }
+{
+    let mut part = [0; N];
+    part.copy_from_slice(&bytes[at..at + N]);
+    part
 }

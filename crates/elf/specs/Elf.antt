@@ -1,5 +1,5 @@
 -- The code's types of elf.rs as the rules have them. Assumes nothing.
-use Rattle.std.specs.Prelude.{true, false, cond, ℕ, pos}
+use Rattle.std.specs.Prelude.{true, false, cond, List, [], ◌∷◌, ℕ, pos}
 use Rattle.rules.specs.Range as rules
 use Rattle.rules.specs.Range.{Range, within, unchecked, signed, unsigned}
 use Rattle.rules.specs.Types.{Row}
@@ -30,6 +30,12 @@ range_from unchecked = record { checked = false; min = pos 0; max = pos 0 }
 -- the range that any value of the code's type stands for
 abbrev pub range_of : AllowedRange → Range
 range_of r = cond r.checked (within r.min r.max) unchecked
+
+-- the kinds of dynamic relocations in the Rust's order
+abbrev pub dynamic_kinds : List DynamicRelocationKind
+dynamic_kinds =
+    dynamic.Copy ∷ dynamic.Irelative ∷ dynamic.DtpMod ∷ dynamic.DtpOff ∷ dynamic.TlsDesc ∷ dynamic.TpOff ∷ dynamic.Relative ∷ dynamic.Absolute
+    ∷ dynamic.GotEntry ∷ dynamic.JumpSlot ∷ []
 
 -- a kind's place in the Rust's order, from 0
 abbrev pub dynamic_number : DynamicRelocationKind → ℕ

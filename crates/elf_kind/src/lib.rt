@@ -4,7 +4,7 @@
 ghost use Rattle.std.specs.Prelude.{◌≡◌};
 ghost use Rattle.elf_kind.specs.Kind.{kind_number};
 
-#[derive(Clone, Copy)]
+#[derive(Clone, Copy, Debug, PartialEq, Eq, Hash)]
 pub enum RelocationKind {
     // The absolute address of a symbol or section.
     Absolute,
@@ -45,23 +45,6 @@ impl RelocationKind {
     pub fn number(self) -> u8
         ensures { result ≡ kind_number self }
     {
-        match self {
-            RelocationKind::Absolute => 0,
-            RelocationKind::SymbolSize => 1,
-            RelocationKind::Relative => 2,
-            RelocationKind::SymRelGotBase => 3,
-            RelocationKind::GotRelGotBase => 4,
-            RelocationKind::PltRelGotBase => 5,
-            RelocationKind::PltRelative => 6,
-            RelocationKind::GotRelative => 7,
-            RelocationKind::TlsGd => 8,
-            RelocationKind::TlsLd => 9,
-            RelocationKind::DtpOff => 10,
-            RelocationKind::GotTpOff => 11,
-            RelocationKind::TpOff => 12,
-            RelocationKind::TlsDesc => 13,
-            RelocationKind::TlsDescCall => 14,
-            RelocationKind::None => 15,
-        }
+        self as u8
     }
 }

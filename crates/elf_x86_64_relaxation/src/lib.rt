@@ -9,10 +9,12 @@ ghost use Rattle.rules.specs.Records.{FallbackWorked};
 ghost use Rattle.rules.specs.Rewrite.{claims};
 ghost use Rattle.x86_64_types.specs.Types.{found_of};
 
+use elf::RelocationKindInfo;
+use elf_kind::RelocationKind;
+use refusal::Refusal;
 use x86_64_kind::{RelaxationKind, RelocationModifier, Window};
-use x86_64_types::RelocationFound;
 
-#[derive(Clone, Copy)]
+#[derive(Clone, Copy, Debug, PartialEq, Eq, Hash)]
 pub struct Relaxation {
     pub kind: RelaxationKind,
     // The Rust keeps the row of this type, `rel_info`.
@@ -20,16 +22,9 @@ pub struct Relaxation {
     pub mandatory: bool,
 }
 
-#[derive(Clone, Copy)]
-pub enum Choice {
-    Nothing,
-    Chosen(Relaxation),
-    Refused(u8),
-}
-
 impl Relaxation {
     // The row of the new type.
-    pub fn rel_info(self) -> RelocationFound
+    pub fn rel_info(self) -> Result<RelocationKindInfo, Refusal>
         ensures { result ≡ found_of (lookup self.new_type) }
     {
         x86_64_types::relocation_from_raw(self.new_type)
@@ -38,8 +33,7 @@ impl Relaxation {
     pub fn next_modifier(self) -> RelocationModifier
         ensures { is_skip result ≡ skips self.kind }
     {
-        let kind = self.kind;
-        kind.next_modifier()
+        self.kind.next_modifier()
     }
 
     pub fn is_mandatory(self) -> bool
@@ -54,13 +48,8 @@ impl Relaxation {
         ensures value { result ≡ needs_fallback self.new_type }
         ensures fallback_worked { FallbackWorked }
     {
-        match self.rel_info() {
-            RelocationFound::Is(info) => {
-                let kind = info.kind;
-                kind.number() == 0
-            }
-            RelocationFound::Refused(_) => false,
-        }
+        self.rel_info()
+            .is_ok_and(|info| info.kind == RelocationKind::Absolute)
     }
 
     // The window that relaxing and a pass claim.
@@ -68,8 +57,6 @@ impl Relaxation {
     pub fn claim(self) -> Window
         ensures { result ≡ claims self.kind self.new_type }
     {
-        let chosen = self.kind;
-        let shape = chosen.shape();
-        shape.window
+        self.kind.shape().window
     }
 }

@@ -1,1 +1,4 @@
 pub mod Past
+pub mod FromFn
+pub mod Calls
+pub mod Decimal

@@ -1,7 +1,7 @@
--- What a line of hexadecimal digits says, and a count's own digits. Assumes nothing.
-use Rattle.std.specs.Prelude.{◌≡◌, ℕ, zero, suc, ◌+◌, ◌-◌, ◌*◌, ◌/◌, cond, List, [], ◌∷◌, ◌++◌, length, take, nat_le, nat_lt, slice_index}
+-- What a line of hexadecimal digits says, and what a count prints. Assumes nothing.
 use Rattle.io.specs.Digits.{last_digits, IsDigitCount}
-use Rattle.hex_lines.specs.declared.Decimal.{Decimal}
+use Rattle.std.specs.Prelude.{◌≡◌, ℕ, ◌+◌, ◌-◌, ◌*◌, ◌/◌, cond, List, length, map, nat_le, nat_lt, slice_index}
+use Rattle.std.specs.List.{range_with_len}
 
 -- the value of a digit '0' to '9' or 'a' to 'f', or 0
 unfoldable pub digit_of : ℕ → ℕ
@@ -14,8 +14,7 @@ byte_at s i = cond (nat_lt i (length s / 2)) (digit_of (slice_index s (2 * i)) *
 
 -- the n bytes from i on
 abbrev pub bytes_from : List ℕ → ℕ → ℕ → List ℕ
-bytes_from s i zero = []
-bytes_from s i (suc n) = bytes_from s i n ++ (byte_at s (i + n) ∷ [])
+bytes_from s i n = map (λ k. byte_at s (i + k)) (range_with_len 0 n)
 
 -- numbers of 4 and 8 bytes, low byte first
 abbrev pub four_at : List ℕ → ℕ → ℕ
@@ -26,6 +25,6 @@ abbrev pub eight_at : List ℕ → ℕ → ℕ
 eight_at s i = four_at s i + four_at s (i + 4) * 0x1_0000_0000
 
 -- a number's decimal digits: as few as hold it, the most significant first
-pub record Says (d : Decimal) (n : ℕ) : Type 0 where
-  pub few : IsDigitCount 10 1 n d.len
-  pub text : take d.len d.digits ≡ last_digits 10 d.len n
+pub record Says (digits : List ℕ) (n : ℕ) : Type 0 where
+  pub few : IsDigitCount 10 1 n (length digits)
+  pub text : digits ≡ last_digits 10 (length digits) n

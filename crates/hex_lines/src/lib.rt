@@ -1,117 +1,123 @@
-// Lines of hexadecimal digits, as the replay programs read them: two small letters or digits to a
+// Lines of hexadecimal digits, as the replay programs read them from standard input: two small letters or digits to a
 // byte, numbers low byte first; and the counts that those programs print.
 #![tactic(auto)]
 
-ghost use Rattle.std.specs.Prelude.{◌≡◌, ◌+◌, ◌%◌, ◌^◌, ◌<◌, length, if◌then◌else◌};
-ghost use Rattle.hex_lines.specs.Hex.{digit_of, byte_at, bytes_from, four_at, eight_at, Says};
+ghost use Rattle.std.specs.Prelude.{◌≡◌, ℕ, ◌+◌, ◌%◌, ◌^◌, ◌<◌, ◌++◌, codes, decimal, length, if◌then◌else◌, Some};
+ghost use Rattle.std.specs.List.{FoldsTo};
+ghost use Rattle.hex_lines.specs.Hex.{Says, digit_of, byte_at, bytes_from, four_at, eight_at};
 
-const STDOUT_FILENO: i32 = 1;
+use std::fmt;
+
+const STDIN_FILENO: i32 = 0;
+
+// More lines than any list has, since a loop over input needs an end.
+const MAX_LINES: u64 = 1_000_000;
 
 // The value of a hexadecimal digit, or 0.
 #[tactic(auto, unfolding(crate::specs::Hex::digit_of))]
 fn digit(b: u8) -> u8
     ensures { (result ≡ digit_of b) × (result < 16) }
 {
-    if b < b'0' {
-        0
-    } else if b <= b'9' {
-        b - b'0'
-    } else if b < b'a' {
-        0
-    } else if b <= b'f' {
-        b - b'a' + 10
-    } else {
-        0
+    match b {
+        b'0'..=b'9' => b - b'0',
+        b'a'..=b'f' => b - b'a' + 10,
+        _ => 0,
     }
 }
 
-// Byte `at` of a line, or 0 past its end.
-#[tactic(auto, unfolding(crate::specs::Hex::byte_at))]
-pub fn byte(line: &[u8], at: usize) -> u8
-    ensures { result ≡ byte_at line.now at }
-{
-    if at < line.len() / 2 {
-        digit(line[2 * at]) * 16 + digit(line[2 * at + 1])
-    } else {
-        0
+// A line's digits.
+#[derive(Clone, Copy)]
+pub struct Line<'a> {
+    pub digits: &'a [u8],
+}
+
+impl Line<'_> {
+    // Byte `at`, or 0 past the line's end.
+    #[tactic(auto, unfolding(crate::specs::Hex::byte_at))]
+    pub fn byte(self, at: usize) -> u8
+        ensures { result ≡ byte_at self.entry.digits.now at }
+    {
+        let digits = self.digits;
+        if at < digits.len() / 2 {
+            digit(digits[2 * at]) * 16 + digit(digits[2 * at + 1])
+        } else {
+            0
+        }
+    }
+
+    // The `N` bytes from `at` on, 0 past the line's end.
+    #[tactic(auto, using(crate::proofs::Past::byte_past, crate::proofs::FromFn::made))]
+    pub fn bytes_at<const N: usize>(self, at: usize) -> [u8; N]
+        ensures { result ≡ bytes_from self.entry.digits.now at N }
+    {
+        std::array::from_fn(|k| self.byte(at.saturating_add(k)))
+    }
+
+    // The four bytes from `at` on, as a number.
+    pub fn u32_at(self, at: usize) -> u32
+        ensures { result ≡ four_at self.entry.digits.now at }
+    {
+        u32::from_le_bytes(self.bytes_at(at))
+    }
+
+    // The eight bytes from `at` on, as a number.
+    pub fn u64_at(self, at: usize) -> u64
+        ensures { result ≡ eight_at self.entry.digits.now at }
+    {
+        u64::from_le_bytes(self.bytes_at(at))
     }
 }
 
-// Byte `at + k` of a line.
-#[tactic(auto, using(crate::proofs::Past::byte_past))]
-fn byte_from(line: &[u8], at: usize, k: usize) -> u8
-    requires { k < 2 ^ 63 }
-    ensures { result ≡ byte_at line.now (at + k) }
+// Calls `each` with the lines of standard input in turn, MAX_LINES of them at most, and answers how many there were. A line
+// has `N` characters, its end among them.
+pub fn for_each_line<const N: usize, F: FnMut(Line<'_>)>(mut each: F) -> u64
+    requires callable { F.IsAlwaysCallable each }
+    requires fits { N < 2 ^ 63 }
+    ensures { (lines : _) × (last : F) × FoldsTo (λ p x q. F.step p x tt q) each lines last × (length lines ≡ result) }
 {
-    if line.len() / 2 <= at {
-        return 0;
+    for turn in 0..MAX_LINES {
+        let mut line = [0; N];
+        if io::read_full(STDIN_FILENO, &mut line) == 0 {
+            return turn;
+        }
+        each(Line { digits: &line });
     }
-    byte(line, at + k)
+    MAX_LINES
 }
 
-// The four bytes from `at` on, as a number.
-pub fn u32_at(line: &[u8], at: usize) -> u32
-    ensures { result ≡ four_at line.now at }
-{
-    byte(line, at) as u32
-        + byte_from(line, at, 1) as u32 * 0x100
-        + byte_from(line, at, 2) as u32 * 0x1_0000
-        + byte_from(line, at, 3) as u32 * 0x100_0000
+// A line of a report: what is counted, and how many of it there are.
+#[derive(Clone, Copy)]
+pub struct Count<'a> {
+    pub name: &'a str,
+    pub count: u64,
 }
 
-// The eight bytes from `at` on, as a number.
-#[tactic(auto, using(crate::proofs::Past::eight_past))]
-pub fn u64_at(line: &[u8], at: usize) -> u64
-    ensures { result ≡ eight_at line.now at }
-{
-    if line.len() / 2 <= at {
-        return 0;
+impl<'a> Count<'a> {
+    // None yet. Of every count the text has as few decimal digits as hold it, the most significant first.
+    #[tactic(auto, using(crate::proofs::Decimal::decimal_says))]
+    pub fn new(name: &'a str) -> Self
+        ensures name { result.name.now ≡ name.now }
+        ensures none { result.count ≡ 0 }
+        ensures digits { (n : ℕ) → n < 2 ^ 64 → Says (decimal n) n }
+    {
+        Count { name, count: 0 }
     }
-    u32_at(line, at) as u64 + u32_at(line, at + 4) as u64 * 0x1_0000_0000
-}
 
-// Fills `out` with the bytes from `at` on, 0 past the line's end.
-pub fn bytes_at(line: &[u8], at: usize, out: &mut [u8])
-    ensures { out.new ≡ bytes_from line.now at (length out.old) }
-{
-    let mut i = 0;
-    while i < out.len() {
-        out[i] = byte_from(line, at, i);
-        i += 1;
-    }
-}
-
-// The count with one more where it agrees, modulo 2^64.
-pub fn more(count: u64, agrees: bool) -> u64
-    ensures { result ≡ (if agrees then (count + 1) % 2 ^ 64 else count) }
-{
-    if agrees {
-        std::num::wrapping_add_u64(count, 1)
-    } else {
-        count
+    // One more where it agrees, modulo 2^64.
+    pub fn more(&mut self, agrees: bool)
+        ensures count { self.new.count ≡ (if agrees then (self.old.count + 1) % 2 ^ 64 else self.old.count) }
+        ensures name { self.new.name ≡ self.old.name }
+    {
+        self.count = self.count.wrapping_add(u64::from(agrees));
     }
 }
 
-// The digits of a number in decimal: the first `len`. Those after them are left free, as the kit's decimal leaves them.
-#[derive(Drop)]
-pub struct Decimal {
-    pub digits: [u8; 20],
-    pub len: usize,
-}
+impl fmt::Display for Count<'_> {
+    ghost output = { λ c. Some (c.name.now ++ (codes " " ++ decimal c.count)) };
 
-// Prints a line, `NAME COUNT`, and answers the count's digits. That the line is printed is no promise's: no contract speaks
-// of what is written.
-pub fn print_count(name: &[u8], count: u64) -> Decimal
-    ensures { Says result count }
-{
-    let mut digits = [0u8; 20];
-    let len = io::decimal(count, &mut digits);
-    io::write_all(STDOUT_FILENO, name);
-    io::write_all(STDOUT_FILENO, b" ");
-    io::write_all(STDOUT_FILENO, &digits[..len]);
-    io::write_all(STDOUT_FILENO, b"\n");
-    Decimal {
-        digits: digits,
-        len: len,
+    fn fmt<W: fmt::Write>(&self, f: &mut fmt::Formatter<W>) -> fmt::Result {
+        let name = self.name;
+        let count = self.count;
+        write!(f, "{name} {count}")
     }
 }

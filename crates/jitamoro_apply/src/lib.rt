@@ -1,6 +1,7 @@
-// Exported to C and Rust: rewriting by a kind, and its modifier. include/jitamoro.h says the same in C. The functions take any arguments; a
-// slice is passed as a pointer and a length. In an answer a refusal is 0, or a number of document 01, and then every other
-// field is 0.
+// Exported to C and Rust: rewriting by a kind, and its modifier. include/jitamoro.h says the same in C. The functions
+// take any arguments; a slice is passed as a pointer and a length. In an answer a refusal is 0, or a number of document
+// 01, and then every other field is 0.
+// Kept: C passes a record's fields one by one and has a refusal as its number.
 #![tactic(auto)]
 
 ghost use Rattle.std.specs.Prelude.{◌≡◌};
@@ -28,8 +29,7 @@ pub extern "C" fn jitamoro_apply(
     ensures same_meaning { SameMeaning section.old }
 {
     let relaxation_kind = RelaxationKind::from_number(kind, inst_offset);
-    let applied = x86_64_apply::apply(relaxation_kind, section, offset, addend);
-    answers::moved_answer(applied)
+    MovedAnswer::from(x86_64_apply::apply(relaxation_kind, section, offset, addend))
 }
 
 // Whether the relocation after one relaxed by a kind is skipped, by the kind's number; no where there is no such kind.

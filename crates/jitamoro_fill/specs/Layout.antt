@@ -1,10 +1,9 @@
 -- The code's answer of filling in the exported layout, both fields. Assumes nothing.
-use Rattle.std.specs.Prelude.{true, false}
-use Rattle.elf_fill.specs.declared.Filling.{Filling}
-use Rattle.elf_fill.specs.declared.Filling.TheVariants.{Nothing, Done, Refused}
+use Rattle.std.specs.Prelude.{Bool, false, Result, Ok, Err}
+use Rattle.refusal.specs.declared.Refusal.{Refusal}
+use Rattle.refusal.specs.Numbers.{number_of}
 use Rattle.jitamoro_fill.specs.declared.FilledAnswer.{FilledAnswer}
 
-abbrev pub filled_layout : Filling → FilledAnswer
-filled_layout Nothing = record { refusal = 0; filled = false }
-filled_layout Done = record { refusal = 0; filled = true }
-filled_layout (Refused n) = record { refusal = n; filled = false }
+abbrev pub filled_layout : Result Bool Refusal → FilledAnswer
+filled_layout (Ok b) = record { refusal = 0; filled = b }
+filled_layout (Err e) = record { refusal = number_of e; filled = false }

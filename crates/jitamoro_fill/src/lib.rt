@@ -1,5 +1,6 @@
 // Exported to C and Rust: filling a field. include/jitamoro.h says the same in C. The function takes any arguments; a slice
 // is passed as a pointer and a length.
+// Kept: C passes a record's fields one by one and has a refusal as its number.
 #![tactic(auto)]
 
 ghost use Rattle.std.specs.Prelude.{◌≡◌, List, ℕ};
@@ -9,15 +10,29 @@ ghost use Rattle.rules.specs.Meaning.{SameMeaning};
 ghost use Rattle.elf_fill.specs.Filling.{filling_of};
 ghost use Rattle.jitamoro_fill.specs.Layout.{filled_layout};
 
-use elf_fill::Filling;
+use refusal::Refusal;
 use rules::Field;
 
 // A refusal or 0, and whether the field was filled: not under a refusal, nor where the type is another one.
 #[repr(C)]
-#[derive(Clone, Copy)]
+#[derive(Clone, Copy, Debug, PartialEq, Eq, Hash)]
 pub struct FilledAnswer {
     pub refusal: u8,
     pub filled: bool,
+}
+
+impl From<Result<bool, Refusal>> for FilledAnswer {
+    ghost from_gives = { λ filled answer. answer ≡ filled_layout filled };
+
+    fn from(filled: Result<bool, Refusal>) -> FilledAnswer {
+        match filled {
+            Ok(filled) => FilledAnswer { refusal: 0, filled },
+            Err(refusal) => FilledAnswer {
+                refusal: refusal.number(),
+                filled: false,
+            },
+        }
+    }
 }
 
 // Fills a field of type 2, 10, 11 or 23. Refusals 1, 2, 7, 16, 15.
@@ -42,24 +57,5 @@ pub extern "C" fn jitamoro_fill(
         value,
         addend,
     };
-    filled_answer(elf_fill::fill(section, field))
-}
-
-fn filled_answer(filled: Filling) -> FilledAnswer
-    ensures { result ≡ filled_layout filled }
-{
-    match filled {
-        Filling::Nothing => FilledAnswer {
-            refusal: 0,
-            filled: false,
-        },
-        Filling::Done => FilledAnswer {
-            refusal: 0,
-            filled: true,
-        },
-        Filling::Refused(n) => FilledAnswer {
-            refusal: n,
-            filled: false,
-        },
-    }
+    FilledAnswer::from(elf_fill::fill(section, field))
 }

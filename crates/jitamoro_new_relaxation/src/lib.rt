@@ -1,6 +1,7 @@
 // Exported to C and Rust: choosing. include/jitamoro.h says the same in C. The functions take any arguments; a
 // slice is passed as a pointer and a length. In an answer a refusal is 0, or a number of document 01, and then every other
 // field is 0.
+// Kept: C passes a record's fields one by one and has a refusal as its number.
 #![tactic(auto)]
 
 ghost use Rattle.std.specs.Prelude.{◌≡◌};
@@ -10,7 +11,6 @@ ghost use Rattle.elf_x86_64_relaxation.specs.Choices.{choice_of};
 ghost use Rattle.answers.specs.Layout.{choice_layout};
 
 use answers::ChoiceAnswer;
-use plain::Plain;
 use rules::Relocation;
 
 // Chooses a relaxation for one record. Refusals 1, 2, 3, 4.
@@ -37,9 +37,7 @@ pub extern "C" fn jitamoro_new_relaxation(
         addend,
     };
     match plain::settle(section, rel) {
-        Plain::Settled(answer) => answer.choice,
-        Plain::Other => {
-            answers::choice_answer(elf_x86_64_new_relaxation::new_relaxation(section, rel))
-        }
+        Some(answer) => answer.choice,
+        None => ChoiceAnswer::from(elf_x86_64_new_relaxation::new_relaxation(section, rel)),
     }
 }

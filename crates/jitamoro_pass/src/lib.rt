@@ -1,8 +1,10 @@
 // Exported to C and Rust: the pass, which the caller holds in place. include/jitamoro.h says the same in C. The functions
 // take any arguments; a slice is passed as a pointer and a length.
+// Kept: C passes a record's fields one by one, the pass as four words, and has a refusal as its number.
 #![tactic(auto)]
 
-ghost use Rattle.std.specs.Prelude.{◌≡◌, ◌&&◌, [], ◌∷◌};
+ghost use Rattle.std.specs.Prelude.{◌≡◌, ◌&&◌, [], ◌∷◌, IfSome};
+ghost use Rattle.std.specs.Bool.{then_some};
 ghost use Rattle.rules.specs.Answer.{refusal_of};
 ghost use Rattle.rules.specs.Record.{link_limit, relocation};
 ghost use Rattle.rules.specs.Rewrite.{relaxing};
@@ -11,19 +13,18 @@ ghost use Rattle.relax.specs.Answers.{relaxed_of};
 ghost use Rattle.answers.specs.Layout.{relaxed_layout};
 ghost use Rattle.pass.specs.Pass.{fresh_pass, ending, passed};
 ghost use Rattle.pass.specs.Answers.{step};
-ghost use Rattle.plain.specs.Plain.{is_plain, plain_of};
+ghost use Rattle.plain.specs.Plain.{is_plain};
 ghost use Rattle.jitamoro_pass.specs.Layout.{pass_of, written, words_left, step_layout, words_ended};
-ghost use Rattle.jitamoro_pass.specs.Parts.{calm};
+ghost use Rattle.jitamoro_pass.specs.Parts.{calm, PassesBy};
 
 use answers::RelaxedAnswer;
-use pass::{End, Pass, Step, Stepped};
-use plain::Plain;
-use relax::Relaxed;
+use pass::{Pass, Step, Stepped};
+use refusal::Refusal;
 use rules::Relocation;
 
 // Last offset, end of the last window, pending, ended: the caller's four words.
 #[repr(C)]
-#[derive(Clone, Copy)]
+#[derive(Clone, Copy, Debug, Default, PartialEq, Eq, Hash)]
 pub struct PassWords {
     pub last: u64,
     pub window: u64,
@@ -34,7 +35,7 @@ pub struct PassWords {
 // Whether the record was skipped, and what relaxing answered. A refusal stands in `relaxed`. C and Rust have a bool, at
 // the first byte of `skipped`; it is a number here, so that no padding is copied.
 #[repr(C)]
-#[derive(Clone, Copy)]
+#[derive(Clone, Copy, Debug, Default, PartialEq, Eq, Hash)]
 pub struct StepAnswer {
     pub skipped: u64,
     pub relaxed: RelaxedAnswer,
@@ -45,16 +46,12 @@ pub struct StepAnswer {
 pub extern "C" fn jitamoro_pass_fresh() -> PassWords
     ensures { pass_of (result.last ∷ result.window ∷ result.pending ∷ result.ended ∷ []) ≡ fresh_pass }
 {
-    PassWords {
-        last: 0,
-        window: 0,
-        pending: 0,
-        ended: 0,
-    }
+    PassWords::default()
 }
 
 // Takes one record. Refusals 21, 1, 2, 3, 4, 22, 6, 23, which change nothing.
 #[unsafe(no_mangle)]
+#[tactic(auto, using(rules::proofs::Theorem::same_meaning_of))]
 pub extern "C" fn jitamoro_pass_step(
     pass: &mut [u64; 4],
     r_type: u32,
@@ -82,20 +79,22 @@ pub extern "C" fn jitamoro_pass_step(
     };
     let before = read(pass);
     match settle(before, section, rel) {
-        Plain::Settled(answer) => pass_by(pass, before, rel, answer),
-        Plain::Other => take(pass, section, rel),
+        Some(answer) => pass_by(pass, before, rel, answer),
+        None => take(pass, section, rel),
     }
 }
 
 // What relaxing answers for a plain record, if the pass is calm.
-pub fn settle(pass: Pass, section: &[u8], rel: Relocation) -> Plain
-    ensures { result ≡ plain_of (calm pass rel.offset && is_plain section.now rel) (relaxed_layout (relaxed_of (relaxing link_limit section.now rel))) }
+#[tactic(auto, using(crate::proofs::Words::passes_by))]
+pub fn settle(pass: Pass, section: &[u8], rel: Relocation) -> Option<RelaxedAnswer>
+    ensures value { result ≡ then_some (calm pass rel.offset && is_plain section.now rel) (relaxed_layout (relaxed_of (relaxing link_limit section.now rel))) }
+    ensures passes_by { IfSome result (λ answer. PassesBy pass section.now rel answer) }
 {
-    let calm = is_calm(pass, rel.offset);
-    if calm {
-        return plain::settle(section, rel);
+    if is_calm(pass, rel.offset) {
+        plain::settle(section, rel)
+    } else {
+        None
     }
-    Plain::Other
 }
 
 // Neither ended nor with a skip pending, and the offset doesn't fall.
@@ -115,12 +114,14 @@ pub fn pass_by(
     ensures value { result ≡ record { skipped = 0; relaxed = relaxed } }
     ensures words_after { words.new ≡ written words.old (passed rel before) }
 {
-    let mut after = before;
-    after.last = rel.offset;
+    let after = Pass {
+        last: rel.offset,
+        ..before
+    };
     write(words, after);
     StepAnswer {
         skipped: 0,
-        relaxed: relaxed,
+        relaxed,
     }
 }
 
@@ -141,14 +142,12 @@ pub extern "C" fn jitamoro_pass_end(pass: &mut [u64; 4]) -> u8
     ensures value { result ≡ refusal_of (ending (pass_of pass.old)) }
     ensures pass_after { pass.new ≡ words_ended pass.old (ending (pass_of pass.old)) }
 {
-    let ended = read(pass).end();
-    let end = ended.end;
-    match end {
-        End::Granted => {
+    match read(pass).end().end {
+        Ok(()) => {
             pass[3] = 1;
             0
         }
-        End::Refused(n) => n,
+        Err(refusal) => refusal.number(),
     }
 }
 
@@ -166,40 +165,36 @@ pub fn read(words: &[u64; 4]) -> Pass
 fn write(words: &mut [u64; 4], pass: Pass)
     ensures { words.new ≡ written words.old pass }
 {
-    words[0] = pass.last;
-    words[1] = pass.window;
-    words[2] = pass.skip as u64;
-    words[3] = pass.ended as u64;
+    *words = [
+        pass.last,
+        pass.window,
+        u64::from(pass.skip),
+        u64::from(pass.ended),
+    ];
 }
 
 pub fn finish(words: &mut [u64; 4], stepped: Stepped) -> StepAnswer
     ensures value { result ≡ step_layout stepped.step }
     ensures words_after { words.new ≡ words_left words.old stepped }
 {
-    let pass = stepped.pass;
-    let step = stepped.step;
-    match step {
-        Step::Refused(n) => answer(0, Relaxed::Refused(n)),
-        Step::Nothing => {
-            write(words, pass);
-            answer(0, Relaxed::Nothing)
-        }
-        Step::Done(relaxation, moved) => {
-            write(words, pass);
-            answer(0, Relaxed::Done(relaxation, moved))
-        }
-        Step::Skipped => {
-            write(words, pass);
-            answer(1, Relaxed::Nothing)
-        }
+    if stepped.step.is_ok() {
+        write(words, stepped.pass);
     }
+    StepAnswer::from(stepped.step)
 }
 
-fn answer(skipped: u64, relaxed: Relaxed) -> StepAnswer
-    ensures { result ≡ record { skipped = skipped; relaxed = relaxed_layout relaxed } }
-{
-    StepAnswer {
-        skipped: skipped,
-        relaxed: answers::relaxed_answer(relaxed),
+impl From<Result<Step, Refusal>> for StepAnswer {
+    ghost from_gives = { λ step answer. answer ≡ step_layout step };
+
+    fn from(step: Result<Step, Refusal>) -> StepAnswer {
+        let (skipped, relaxed) = match step {
+            Ok(Step::Took(relaxed)) => (0, Ok(relaxed)),
+            Ok(Step::Skipped) => (1, Ok(None)),
+            Err(refusal) => (0, Err(refusal)),
+        };
+        StepAnswer {
+            skipped,
+            relaxed: RelaxedAnswer::from(relaxed),
+        }
     }
 }

@@ -1,5 +1,6 @@
 // Exported to C and Rust: the functions of jitamoro_pass. It is a library, since jitamoro_tally stands on it, and a
 // library exports nothing.
+// Kept: twins of its functions, since a crate that another stands on exports nothing to C.
 #![tactic(auto)]
 
 ghost use Rattle.std.specs.Prelude.{◌≡◌, [], ◌∷◌};

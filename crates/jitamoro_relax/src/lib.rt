@@ -1,6 +1,7 @@
 // Exported to C and Rust: relaxing one record. include/jitamoro.h says the same in C. The functions take any arguments; a
 // slice is passed as a pointer and a length. In an answer a refusal is 0, or a number of document 01, and then every other
 // field is 0.
+// Kept: C passes a record's fields one by one and has a refusal as its number.
 #![tactic(auto)]
 
 ghost use Rattle.std.specs.Prelude.{◌≡◌};
@@ -11,11 +12,11 @@ ghost use Rattle.relax.specs.Answers.{relaxed_of};
 ghost use Rattle.answers.specs.Layout.{relaxed_layout};
 
 use answers::RelaxedAnswer;
-use plain::Plain;
 use rules::Relocation;
 
 // Relaxes one record in its section. Refusals 1, 2, 3, 4, 6.
 #[unsafe(no_mangle)]
+#[tactic(auto, using(rules::proofs::Theorem::same_meaning_of))]
 pub extern "C" fn jitamoro_relax(
     r_type: u32,
     section: &mut [u8],
@@ -40,7 +41,7 @@ pub extern "C" fn jitamoro_relax(
         addend,
     };
     match plain::settle(section, rel) {
-        Plain::Settled(answer) => answer,
-        Plain::Other => answers::relaxed_answer(relax::relax(section, rel)),
+        Some(answer) => answer,
+        None => RelaxedAnswer::from(relax::relax(section, rel)),
     }
 }

@@ -1,13 +1,13 @@
 -- The tables' answers in the exported layouts: every field, for what is given and for a refusal. Assumes nothing.
-use Rattle.std.specs.Prelude.{false, not, ℕ, pos}
+use Rattle.std.specs.Prelude.{false, not, ℕ, pos, Result, Ok, Err}
 use Rattle.rules.specs.Answer.{Answer, refusal_of, whether}
 use Rattle.rules.specs.Record.{is_e, is_s, is_p, is_f, is_k, is_n, absolute, dynamic, ifunc}
 use Rattle.elf_kind.specs.Kind.{kind_number}
 use Rattle.rules.specs.Types.{Row}
 use Rattle.elf.specs.declared.RelocationKindInfo.{RelocationKindInfo}
 use Rattle.x86_64_types.specs.Types.{found_of}
-use Rattle.x86_64_types.specs.declared.RelocationFound.{RelocationFound}
-use Rattle.x86_64_types.specs.declared.RelocationFound.TheVariants.{Is, Refused}
+use Rattle.refusal.specs.declared.Refusal.{Refusal}
+use Rattle.refusal.specs.Numbers.{number_of}
 use Rattle.jitamoro_tables.specs.declared.OutputKindAnswer.{OutputKindAnswer}
 use Rattle.jitamoro_tables.specs.declared.ValueFlagsAnswer.{ValueFlagsAnswer}
 use Rattle.jitamoro_tables.specs.declared.RelocationAnswer.{RelocationAnswer}
@@ -51,10 +51,10 @@ info_layout i =
       max = i.range.max;
     }
 
-abbrev pub found_layout : RelocationFound → RelocationAnswer
-found_layout (Is i) = info_layout i
-found_layout (Refused n) =
-    record { refusal = n; kind = 0; size = 0; checked = false; mask = false; alignment = 0; bias = false; thunkable = false; implicit_addend = false; min = pos 0; max = pos 0 }
+abbrev pub found_layout : Result RelocationKindInfo Refusal → RelocationAnswer
+found_layout (Ok i) = info_layout i
+found_layout (Err n) =
+    record { refusal = number_of n; kind = 0; size = 0; checked = false; mask = false; alignment = 0; bias = false; thunkable = false; implicit_addend = false; min = pos 0; max = pos 0 }
 
 abbrev pub relocation_layout : Answer Row → RelocationAnswer
 relocation_layout a = found_layout (found_of a)

@@ -1,12 +1,13 @@
 -- A plain record is counted as its step: NoOp where its answer's head isn't 0, none where it is.
 -- Assumes nothing.
+use Rattle.std.specs.Prelude.{Some, Ok, if◌then◌else◌}
+use Rattle.std.specs.Bool.{then_some}
 use mathlib.Core.Path.{◌≡◌, refl, ◌∙◌}
 use mathlib.Core.Bool.{Bool, true, false, not, cond, ◌||◌, ◌&&◌}
 use mathlib.Core.List.{List}
 use Prim.Native.Nat.{ℕ}
 use lib.Dec.{eqb}
 use Rattle.laws.proofs.Bools.{both}
-use Rattle.rules.specs.Answer.{gives}
 use Rattle.rules.specs.declared.Relocation.{Relocation}
 use Rattle.rules.specs.Record.{link_limit, is_s}
 use Rattle.rules.specs.Rewrite.{claims, relaxing}
@@ -16,23 +17,22 @@ use Rattle.answers.specs.Layout.{relaxed_layout}
 use Rattle.pass.specs.declared.Pass.{Pass}
 use Rattle.pass.specs.Pass.{took}
 use Rattle.pass.specs.Answers.{step_of, step}
-use Rattle.plain.specs.declared.Plain.TheVariants.{Settled}
-use Rattle.plain.specs.Plain.{is_plain, plain_of, chosen_by}
+use Rattle.plain.specs.Plain.{is_plain, chosen_by}
 use Rattle.plain.proofs.Numbers.{outcome, settles, settled}
 use Rattle.jitamoro_pass.specs.Parts.{calm}
 use Rattle.jitamoro_pass.proofs.Words.{plain_step}
 use Rattle.tally.specs.Tally.{none_at, counted, tallied}
 
-module _ (p : Pass) (sec : List ℕ) (r : Relocation) (a : RelaxedAnswer) (e : Settled a ≡ plain_of (calm p r.offset && is_plain sec r) (relaxed_layout (relaxed_of (relaxing link_limit sec r)))) (t : List ℕ) where
+module _ (p : Pass) (sec : List ℕ) (r : Relocation) (a : RelaxedAnswer) (e : Some a ≡ then_some (calm p r.offset && is_plain sec r) (relaxed_layout (relaxed_of (relaxing link_limit sec r)))) (t : List ℕ) where
   by : (plain : is_plain sec r ≡ true) (c m : Bool)
-      → counted (cond (not (eqb (cond c (cond m 0x100090100 0x90100) 0) 0)) 9 none_at) 0 t
-      ≡ tallied t (step_of (gives (took (outcome sec r plain c (eqb r.r_type 2) (is_s r.output_kind)))))
+      → counted (if not (eqb (cond c (cond m 0x100090100 0x90100) 0) 0) then 9 else none_at) 0 t
+      ≡ tallied t (step_of (Ok (took (outcome sec r plain c (eqb r.r_type 2) (is_s r.output_kind)))))
   unfolding tallied claims
   by plain true true = refl
   by plain true false = refl
   by plain false m = refl
 
-  pub counted_plain : counted (cond (not (eqb a.choice.head 0)) 9 none_at) 0 t ≡ tallied t (step p sec r).stepped.step
+  pub counted_plain : counted (if not (eqb a.choice.head 0) then 9 else none_at) 0 t ≡ tallied t (step p sec r).stepped.step
   unfolding step
   counted_plain =
       let k = settled (calm p r.offset && is_plain sec r) _ a e in

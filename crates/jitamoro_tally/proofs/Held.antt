@@ -1,10 +1,11 @@
 -- The words that a step or an ending leaves are the pass that it leaves.
 -- Assumes nothing.
+use Rattle.std.specs.Prelude.{Ok, Err}
 use mathlib.Core.Path.{◌≡◌, refl}
 use mathlib.Core.Bool.{Bool, true, false, not}
 use Prim.Native.Nat.{ℕ}
 use lib.Dec.{eqb}
-use Rattle.rules.specs.Answer.{Answer, gives, refuses, flag}
+use Rattle.rules.specs.Answer.{Answer, flag}
 use Rattle.rules.specs.Rewrite.{unrelaxed, relaxed}
 use Rattle.rules.specs.declared.Relocation.{Relocation}
 use Rattle.pass.specs.declared.Pass.{Pass}
@@ -26,14 +27,14 @@ module _ (a b c d : ℕ) where
   after : (r : Relocation) (x : Answer Accepted)
       → let q = pass_left (pass_of (four a b c d)) r x in pass_of (words_left (four a b c d) (record { pass = q; step = step_of x })) ≡ q
   unfolding pass_left
-  after r (refuses n) = refl
-  after r (gives skipped) = read_back _
-  after r (gives (took unrelaxed)) = read_back _
-  after r (gives (took (relaxed k t m y))) = read_back _
+  after r (Err n) = refl
+  after r (Ok skipped) = read_back _
+  after r (Ok (took unrelaxed)) = read_back _
+  after r (Ok (took (relaxed k t m y))) = read_back _
 
   ends : (x : Answer Unit) → pass_of (words_ended (four a b c d) x) ≡ ended_pass (pass_of (four a b c d)) x
-  ends (gives u) = refl
-  ends (refuses n) = refl
+  ends (Ok u) = refl
+  ends (Err n) = refl
 
 pub held : Held
 unfolding step

@@ -1,5 +1,6 @@
 // Exported to C and Rust: a pass's step with the tally, whose 22 figures the caller holds beside the pass.
 // include/jitamoro.h says the same in C. The functions take any arguments.
+// Kept: C passes a record's fields one by one, the pass as four words, and has a refusal as its number.
 #![tactic(auto)]
 
 ghost use Rattle.std.specs.Prelude.{◌≡◌};
@@ -11,7 +12,6 @@ ghost use Rattle.tally.specs.Tally.{fresh_tally, tallied};
 ghost use Rattle.jitamoro_tally.specs.Held.{Held};
 
 use jitamoro_pass::StepAnswer;
-use plain::Plain;
 use rules::Relocation;
 use tally::Tally;
 
@@ -28,6 +28,7 @@ pub extern "C" fn jitamoro_tally_fresh() -> Tally
 
 // Takes one record as jitamoro_pass_step does, and counts it. A refusal changes no figure.
 #[unsafe(no_mangle)]
+#[tactic(auto, using(rules::proofs::Theorem::same_meaning_of))]
 pub extern "C" fn jitamoro_tally_step(
     pass: &mut [u64; 4],
     tally: &mut [u64; 22],
@@ -57,12 +58,11 @@ pub extern "C" fn jitamoro_tally_step(
     };
     let before = jitamoro_pass::read(pass);
     match jitamoro_pass::settle(before, section, rel) {
-        Plain::Settled(answer) => {
-            let choice = answer.choice;
-            tally::count_no_op(tally, choice.head != 0);
+        Some(answer) => {
+            tally::count_no_op(tally, answer.choice.head != 0);
             jitamoro_pass::pass_by(pass, before, rel, answer)
         }
-        Plain::Other => take(pass, tally, section, rel),
+        None => take(pass, tally, section, rel),
     }
 }
 
@@ -80,7 +80,6 @@ fn take(
     ensures same_meaning { SameMeaning section.old }
 {
     let stepped = jitamoro_pass::read(words).step(section, rel);
-    let step = stepped.step;
-    tally::count(tally, step);
+    tally::count(tally, stepped.step);
     jitamoro_pass::finish(words, stepped)
 }

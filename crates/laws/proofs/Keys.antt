@@ -3,7 +3,7 @@
 use mathlib.Core.Path.{◌≡◌, refl, ◌∙◌, sym, subst}
 use mathlib.Core.Bool.{Bool, true, false}
 use mathlib.Core.List.{List, [], ◌∷◌, map}
-use Prim.Native.Nat.{ℕ, zero, suc, ◌<◌, ◌≤◌, zero-le}
+use Prim.Native.Nat.{ℕ, zero, suc, ◌<◌}
 use native.Mathlib.Omega.{arith}
 use lib.Dec.{T, eqb, eqb→eq}
 use borrow.Author.Tests.{ne_eqb, eqb-true, eqb-false}
@@ -33,11 +33,6 @@ away t x (k ∷ ks) a h = by (eqb x k) (eqb-true x k) (away t x ks a.0) h where
 abbrev pub down : ℕ → List ℕ
 down zero = []
 down (suc n) = n ∷ down n
-
--- a number that is none of 0 to n - 1 is at least n
-pub at_least : (n t : ℕ) → Away t (down n) → n ≤ t
-at_least zero t a = zero-le
-at_least (suc n) t a = let h = at_least n t a.0 in let k = a.1 in omega arith
 
 -- two functions that a computed test finds equal below n are equal at each number below n
 pub at_down : {A : Type 0} (f g : ℕ → A) (n : ℕ) → map f (down n) ≡ map g (down n) → (k : ℕ) → k < n → f k ≡ g k

@@ -2,5 +2,4 @@ pub mod Keys
 pub mod Bytes
 pub mod Bools
 pub mod Stores
-pub mod Signs
 pub mod Wrap

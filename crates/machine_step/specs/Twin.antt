@@ -1,100 +1,72 @@
--- The code's values as the machine's and back. Assumes nothing.
-use Rattle.std.specs.Prelude.{◌≡◌, ℕ, ◌+◌, ◌-◌, ◌%◌, ◌<◌, Bool, true, false, cond, List, ◌==◌, nat_lt, slice_index}
+-- The code's values as the machine's, one to one. Assumes nothing.
+use Rattle.std.specs.Prelude.{ℕ, ◌+◌, ◌-◌, ◌%◌, ◌≡◌, true, false, Bool, List, Option, Some, None, slice_index}
 use Rattle.rules.specs.Machine as machine
-use Rattle.machine_step.specs.declared.Form.{Form}
+use Rattle.machine_step.specs.declared.instruction.Register.{Register}
+use Rattle.machine_step.specs.declared.instruction.Source.{Source}
+use Rattle.machine_step.specs.declared.instruction.Source.TheVariants.{Slot, Imm, Addr}
+use Rattle.machine_step.specs.declared.instruction.Op.{Op}
+use Rattle.machine_step.specs.declared.instruction.Op.TheVariants.{Add, Sub}
+use Rattle.machine_step.specs.declared.instruction.Action.{Action}
+use Rattle.machine_step.specs.declared.instruction.Action.TheVariants.{Move, Alu, Call, Jump}
+use Rattle.machine_step.specs.declared.instruction.Form.{Form}
 use Rattle.machine_step.specs.declared.Flags.{Flags}
+use Rattle.machine_step.specs.declared.State.{State}
+use Rattle.machine_step.specs.declared.Push.{Push}
 use Rattle.machine_step.specs.declared.Stepped.{Stepped}
 
--- ---- a form in the code's layout, and back
+abbrev pub source_of : Source → machine.Source
+source_of Slot = machine.slot
+source_of Imm = machine.imm
+source_of Addr = machine.addr
 
-abbrev pub flat : ℕ → Bool → Bool → ℕ → ℕ → ℕ → Bool → ℕ → Form
-flat a o w t k f b n =
-    record { action = a; sub = o; wide = w; target = t; first = k; source = f; sets = b; long = n }
+abbrev pub op_of : Op → machine.Op
+op_of Add = machine.add
+op_of Sub = machine.sub
 
--- sources and actions in the order of the machine's; 32 for no target
-abbrev pub source_number : machine.Source → ℕ
-source_number machine.slot = 0
-source_number machine.imm = 1
-source_number machine.addr = 2
+abbrev pub target_of : Option Register → machine.Target
+target_of None = machine.nowhere
+target_of (Some k) = machine.into k.number
 
-abbrev pub target_number : machine.Target → ℕ
-target_number machine.nowhere = 32
-target_number (machine.into k) = k
+abbrev pub action_of : Option Action → machine.Action
+action_of None = machine.bad
+action_of (Some (Move w k f)) = machine.move w k.number (source_of f)
+action_of (Some (Alu o w t k f b)) = machine.alu (op_of o) w (target_of t) k.number (source_of f) b
+action_of (Some (Call f)) = machine.call (source_of f)
+action_of (Some (Jump f)) = machine.jump (source_of f)
 
-abbrev pub is_sub : machine.Op → Bool
-is_sub machine.add = false
-is_sub machine.sub = true
-
-abbrev pub layout : machine.Form → Form
-layout x = by x.action x.long where
-  by : machine.Action → ℕ → Form
-  by machine.bad n = flat 0 false false 0 0 0 false n
-  by (machine.move w k f) n = flat 1 false w k 0 (source_number f) false n
-  by (machine.alu o w t k f b) n = flat 2 (is_sub o) w (target_number t) k (source_number f) b n
-  by (machine.call f) n = flat 3 false false 0 0 (source_number f) false n
-  by (machine.jump f) n = flat 4 false false 0 0 (source_number f) false n
-
-abbrev pub op_of : Bool → machine.Op
-op_of sub = cond sub machine.sub machine.add
-
-abbrev pub source_of : ℕ → machine.Source
-source_of n = cond (n == 0) machine.slot (cond (n == 1) machine.imm machine.addr)
-
-abbrev pub target_of : ℕ → machine.Target
-target_of k = cond (nat_lt k 32) (machine.into k) machine.nowhere
-
-abbrev pub action_of : Form → machine.Action
-action_of x =
-    let f = source_of x.source in
-    cond (x.action == 1) (machine.move x.wide x.target f)
-    (cond (x.action == 2) (machine.alu (op_of x.sub) x.wide (target_of x.target) x.first f x.sets)
-    (cond (x.action == 3) (machine.call f) (cond (x.action == 4) (machine.jump f) machine.bad)))
-
--- its registers are among the 32
-pub record Small (x : Form) : Type 0 where
-  pub moves : x.action ≡ 1 → x.target < 32
-  pub first : x.first < 32
+abbrev pub form_of : Form → machine.Form
+form_of x = machine.form (action_of x.action) x.long
 
 -- ---- flags, states and answers
 
 abbrev pub flags_of : Flags → machine.Flags
 flags_of f = record { cf = f.cf; pf = f.pf; af = f.af; zf = f.zf; sf = f.sf; of = f.of }
 
--- the registers of a list, the flags, and any memory
+-- registers, flags and any memory
 abbrev pub state_by : List ℕ → machine.Flags → (ℕ → ℕ) → machine.State
 state_by l f m = record { regs = λ k. slice_index l k; flags = f; mem = m }
 
-abbrev pub state_of : List ℕ → Flags → (ℕ → ℕ) → machine.State
-state_of l f m = state_by l (flags_of f) m
+-- the code's state with any memory
+abbrev pub state_of : State → (ℕ → ℕ) → machine.State
+state_of s m = state_by s.regs (flags_of s.flags) m
 
--- the memory after: what is pushed, if anything is
-abbrev pub memory_of : Stepped → (ℕ → ℕ) → ℕ → ℕ
-memory_of r m = cond r.pushes (machine.write8 m r.at r.pushed) m
+-- the memory after a push, if there is one
+abbrev pub memory_of : Option Push → (ℕ → ℕ) → ℕ → ℕ
+memory_of None m = m
+memory_of (Some p) m = machine.write8 m p.at p.value
 
-abbrev pub answer_of : Stepped → (ℕ → ℕ) → machine.Result
-answer_of r m = cond r.steps (machine.stepped (state_of r.regs r.flags (memory_of r m)) r.next) machine.stop
+abbrev pub answer_of : Option Stepped → (ℕ → ℕ) → machine.Result
+answer_of None m = machine.stop
+answer_of (Some r) m = machine.stepped (state_of r.state (memory_of r.push m)) r.next
 
--- no step: registers and flags as they came, and 0
-abbrev pub stopped : List ℕ → Flags → Stepped
-stopped l f = record { steps = false; regs = l; flags = f; next = 0; pushes = false; pushed = 0; at = 0 }
+-- ---- slots
 
--- what `answer_of` doesn't read: of no step all but `steps`, and where nothing is pushed the value and its place
-pub record Tidy (l : List ℕ) (f : Flags) (r : Stepped) : Type 0 where
-  pub still : r.steps ≡ false → r ≡ stopped l f
-  pub unpushed : r.pushes ≡ false → (r.pushed ≡ 0) × (r.at ≡ 0)
-
--- an answer that does step, for every memory
-pub record Answers (x : (ℕ → ℕ) → machine.Result) (r : Stepped) : Type 0 where
-  pub is : (m : ℕ → ℕ) → x m ≡ answer_of r m
-  pub steps : r.steps ≡ true
-  pub unpushed : r.pushes ≡ false → (r.pushed ≡ 0) × (r.at ≡ 0)
-
--- whether an action reads its slot; where it does, memory m holds the number v there, for the field d and the address n after the instruction
 abbrev pub from_slot : machine.Source → Bool
 from_slot machine.slot = true
 from_slot machine.imm = false
 from_slot machine.addr = false
 
+-- whether an action reads its slot
 abbrev reads_slot : machine.Action → Bool
 reads_slot machine.bad = false
 reads_slot (machine.move w k f) = from_slot f
@@ -102,14 +74,16 @@ reads_slot (machine.alu o w t k f b) = from_slot f
 reads_slot (machine.call f) = from_slot f
 reads_slot (machine.jump f) = from_slot f
 
+-- where it does, memory m holds the number v there, for the field d and the address n after the instruction
 abbrev pub SlotHolds : machine.Action → ℕ → ℕ → ℕ → (ℕ → ℕ) → Type 0
 SlotHolds x d n v m = reads_slot x ≡ true → machine.read8 m ((n + machine.signed32 d) % machine.word) ≡ v
 
--- the same of the instruction that begins a code at address a
+-- the address of the slot of the instruction that begins a code at address a
 abbrev pub code_slot : List ℕ → ℕ → ℕ
 code_slot code a =
     let n = (machine.decode code).long in
     ((a + n) % machine.word + machine.signed32 (machine.field_at code (n - 4))) % machine.word
 
+-- where it reads its slot, memory m holds the number v there
 abbrev pub CodeSlotHolds : List ℕ → ℕ → ℕ → (ℕ → ℕ) → Type 0
 CodeSlotHolds code a v m = reads_slot (machine.decode code).action ≡ true → machine.read8 m (code_slot code a) ≡ v

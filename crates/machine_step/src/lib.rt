@@ -2,45 +2,17 @@
 // definition for every input. It exists so that the definition can be tried on a CPU's own steps.
 #![tactic(auto)]
 
-ghost use Rattle.std.specs.Prelude.{◌≡◌, ℕ, ◌+◌, ◌-◌, ◌*◌, ◌/◌, ◌%◌, ◌^◌, ◌<◌, ◌≤◌, true, false, [], ◌∷◌, slice_index};
+ghost use Rattle.std.specs.Prelude.{◌≡◌, ℕ, ◌+◌, ◌-◌, ◌*◌, ◌/◌, ◌%◌, ◌^◌, ◌<◌, ◌≤◌, true, false, slice_index};
 ghost use Rattle.rules.specs.Machine as machine;
-ghost use Rattle.machine_step.specs.Twin.{flat, layout, source_number, op_of, source_of, target_of, action_of, flags_of, state_by, state_of, answer_of, stopped, Tidy, Answers, Small, from_slot, SlotHolds, code_slot, CodeSlotHolds};
+ghost use Rattle.rules.specs.Range.{bit as bit_of};
+ghost use Rattle.machine_step.specs.Twin.{source_of, op_of, target_of, action_of, form_of, flags_of, state_by, state_of, memory_of, answer_of, from_slot, SlotHolds, code_slot, CodeSlotHolds};
 
-// Actions.
-pub const BAD: u8 = 0;
+mod instruction;
 
-pub const MOVE: u8 = 1;
+pub use instruction::{Action, Form, Op, Register, Source};
 
-pub const ALU: u8 = 2;
-
-pub const CALL: u8 = 3;
-
-pub const JUMP: u8 = 4;
-
-// Where an operand comes from.
-pub const SLOT: u8 = 0;
-
-pub const IMM: u8 = 1;
-
-pub const ADDR: u8 = 2;
-
-// The target of a result that goes nowhere.
-pub const NOWHERE: u8 = 32;
-
-// What an instruction does, with 0 in what its action has not, and how many bytes it has.
-#[derive(Drop)]
-pub struct Form {
-    pub action: u8,
-    pub sub: bool,
-    pub wide: bool,
-    pub target: u8,
-    pub first: u8,
-    pub source: u8,
-    pub sets: bool,
-    pub long: u8,
-}
-
-#[derive(Drop)]
+// The six status flags.
+#[derive(Clone, Copy, Debug, PartialEq, Eq, Hash)]
 pub struct Flags {
     pub cf: bool,
     pub pf: bool,
@@ -50,443 +22,423 @@ pub struct Flags {
     pub of: bool,
 }
 
-#[derive(Drop)]
-pub struct Stepped {
-    pub steps: bool,
+// The machine's state but for its memory.
+#[derive(Clone, Copy, Debug, PartialEq, Eq, Hash)]
+pub struct State {
     pub regs: [u64; 32],
     pub flags: Flags,
-    pub next: u64,
-    pub pushes: bool,
-    pub pushed: u64,
+}
+
+// The 8 bytes that a call writes, and where.
+#[derive(Clone, Copy, Debug, PartialEq, Eq, Hash)]
+pub struct Push {
+    pub value: u64,
     pub at: u64,
 }
 
-fn lay(
-    action: u8,
-    sub: bool,
-    wide: bool,
-    target: u8,
-    first: u8,
-    source: u8,
-    sets: bool,
-    long: u8,
-) -> Form
-    ensures { result ≡ flat action sub wide target first source sets long }
-{
-    Form {
-        action: action,
-        sub: sub,
-        wide: wide,
-        target: target,
-        first: first,
-        source: source,
-        sets: sets,
-        long: long,
-    }
+// The state after a step, where it goes on, and what it pushed, if anything.
+#[derive(Clone, Copy, Debug, PartialEq, Eq, Hash)]
+pub struct Stepped {
+    pub state: State,
+    pub next: u64,
+    pub push: Option<Push>,
 }
 
 // The operations on register k by their digits: add, sub, and cmp, which is sub without a target.
 #[tactic(auto, unfolding(rules::specs::Machine::by_digit))]
-fn by_digit(wide: bool, k: u8, source: u8, digit: u8, long: u8) -> Form
-    ensures { (f : machine.Source) → source ≡ source_number f → result ≡ layout (machine.form (machine.by_digit wide k f digit) long) }
+fn by_digit(wide: bool, k: Register, source: Source, digit: u8) -> Option<Action>
+    ensures { action_of result ≡ machine.by_digit wide k.number (source_of source) digit }
 {
-    match digit {
-        0 => lay(ALU, false, wide, k, k, source, true, long),
-        5 => lay(ALU, true, wide, k, k, source, true, long),
-        7 => lay(ALU, true, wide, NOWHERE, k, source, true, long),
-        _ => lay(BAD, false, false, 0, 0, 0, false, long),
-    }
+    let (op, target) = match digit {
+        0 => (Op::Add, Some(k)),
+        5 => (Op::Sub, Some(k)),
+        7 => (Op::Sub, None),
+        _ => return None,
+    };
+    Some(Action::Alu {
+        op,
+        wide,
+        target,
+        first: k,
+        source,
+        sets: true,
+    })
 }
 
 // Opcode o with a RIP-relative operand, on register k or with digit n.
 #[tactic(auto, unfolding(rules::specs::Machine::via_rip))]
-fn via_rip(wide: bool, o: u8, k: u8, n: u8, long: u8) -> Form
-    ensures { result ≡ layout (machine.form (machine.via_rip wide o k n) long) }
+fn via_rip(wide: bool, o: u8, k: Register, n: u8) -> Option<Action>
+    ensures { action_of result ≡ machine.via_rip wide o k.number n }
 {
-    let call = (o == 0xff) & (n == 2);
-    let jump = (o == 0xff) & (n == 4);
-    match o {
-        0x8b => lay(MOVE, false, wide, k, 0, SLOT, false, long),
-        0x03 => by_digit(wide, k, SLOT, 0, long),
-        0x2b => by_digit(wide, k, SLOT, 5, long),
-        0x3b => by_digit(wide, k, SLOT, 7, long),
-        0x8d => lay(MOVE, false, wide, k, 0, ADDR, false, long),
-        _ => {
-            if call {
-                return lay(CALL, false, false, 0, 0, SLOT, false, long);
-            }
-            if jump {
-                return lay(JUMP, false, false, 0, 0, SLOT, false, long);
-            }
-            lay(BAD, false, false, 0, 0, 0, false, long)
-        }
+    match (o, n) {
+        (0x8b, _) => Some(Action::Move {
+            wide,
+            target: k,
+            source: Source::Slot,
+        }),
+        (0x03, _) => by_digit(wide, k, Source::Slot, 0),
+        (0x2b, _) => by_digit(wide, k, Source::Slot, 5),
+        (0x3b, _) => by_digit(wide, k, Source::Slot, 7),
+        (0x8d, _) => Some(Action::Move {
+            wide,
+            target: k,
+            source: Source::Addr,
+        }),
+        (0xff, 2) => Some(Action::Call(Source::Slot)),
+        (0xff, 4) => Some(Action::Jump(Source::Slot)),
+        _ => None,
     }
 }
 
 // Opcode o with digit n on register k.
 #[tactic(auto, unfolding(rules::specs::Machine::on_register))]
-fn on_register(wide: bool, o: u8, k: u8, n: u8, long: u8) -> Form
-    ensures { result ≡ layout (machine.form (machine.on_register wide o k n) long) }
+fn on_register(wide: bool, o: u8, k: Register, n: u8) -> Option<Action>
+    ensures { action_of result ≡ machine.on_register wide o k.number n }
 {
-    let mov = (o == 0xc7) & (n == 0);
-    if mov {
-        return lay(MOVE, false, wide, k, 0, IMM, false, long);
+    match (o, n) {
+        (0xc7, 0) => Some(Action::Move {
+            wide,
+            target: k,
+            source: Source::Imm,
+        }),
+        (0x81, _) => by_digit(wide, k, Source::Imm, n),
+        _ => None,
     }
-    let group = o == 0x81;
-    if group {
-        return by_digit(wide, k, IMM, n, long);
-    }
-    lay(BAD, false, false, 0, 0, 0, false, long)
 }
 
-// Opcode o with ModRM m, after p prefix bytes with W and the high parts of the register numbers.
-#[tactic(auto, unfolding(rules::specs::Machine::opcode))]
-fn opcode(p: u8, wide: bool, high_r: u8, high_b: u8, rel: bool, o: u8, m: u8) -> Form
-    requires { (p ≤ 2) × (high_r ≤ 24) × (high_b ≤ 24) }
-    ensures { result ≡ layout (machine.opcode p wide high_r high_b rel o m) }
+// Bit k of a byte.
+fn bit(x: u8, k: u32) -> u8
+    requires { k < 8 }
+    ensures { (result ≡ bit_of x k) × (result ≤ 1) }
 {
-    let call = rel & (o == 0xe8);
-    if call {
-        return lay(CALL, false, false, 0, 0, ADDR, false, p + 5);
-    }
-    let jump = rel & (o == 0xe9);
-    if jump {
-        return lay(JUMP, false, false, 0, 0, ADDR, false, p + 5);
-    }
-    let rip = (m / 64 == 0) & (m % 8 == 5);
-    if rip {
-        return via_rip(wide, o, high_r + m / 8 % 8, m / 8 % 8, p + 6);
-    }
-    let direct = m / 64 == 3;
-    if direct {
-        return on_register(wide, o, high_b + m % 8, m / 8 % 8, p + 6);
-    }
-    lay(BAD, false, false, 0, 0, 0, false, p + 6)
+    x >> k & 1
 }
 
-// The form that four bytes begin.
+fn is_set(x: u8, k: u32) -> bool
+    requires { k < 8 }
+    ensures { result ≡ machine.is_set x k }
+{
+    bit(x, k) == 1
+}
+
+// What the bytes before an opcode say: their count, W and the high parts of the register numbers; and
+// whether E8 and E9 are defined after them.
+#[derive(Clone, Copy)]
+struct Prefix {
+    long: u8,
+    wide: bool,
+    high_r: u8,
+    high_b: u8,
+    branches: bool,
+    ghost long_bound: { long ≤ 2 },
+    ghost high_r_bound: { high_r ≤ 24 },
+    ghost high_b_bound: { high_b ≤ 24 },
+}
+
+impl Prefix {
+    // Opcode o with ModRM m after this prefix.
+    #[tactic(auto, unfolding(rules::specs::Machine::opcode))]
+    fn opcode(self, o: u8, m: u8) -> Form
+        ensures { form_of result ≡ machine.opcode self.long self.wide self.high_r self.high_b self.branches o m }
+    {
+        let branch = match o {
+            0xe8 => Some(Action::Call(Source::Addr)),
+            0xe9 => Some(Action::Jump(Source::Addr)),
+            _ => None,
+        };
+        if self.branches && branch.is_some() {
+            return Form {
+                action: branch,
+                long: self.long + 5,
+            };
+        }
+        let n = m >> 3 & 7;
+        let r = Register {
+            number: self.high_r + n,
+        };
+        let b = Register {
+            number: self.high_b + (m & 7),
+        };
+        let action = match (m >> 6, m & 7) {
+            (0, 5) => via_rip(self.wide, o, r, n),
+            (3, _) => on_register(self.wide, o, b, n),
+            _ => None,
+        };
+        Form {
+            action,
+            long: self.long + 6,
+        }
+    }
+}
+
+// The form that begins a code.
 #[tactic(auto, unfolding(rules::specs::Machine::decode))]
-fn prefixed(b0: u8, b1: u8, b2: u8, b3: u8) -> Form
-    ensures { result ≡ layout (machine.decode (b0 ∷ b1 ∷ b2 ∷ b3 ∷ [])) }
+pub fn decode(code: &[u8]) -> Form
+    ensures { form_of result ≡ machine.decode code.now }
 {
-    let rex = b0 / 16 == 4;
-    if rex {
-        let wide = b0 / 8 % 2 == 1;
-        return opcode(1, wide, b0 / 4 % 2 * 8, b0 / 1 % 2 * 8, true, b1, b2);
-    }
-    let rex2 = b0 == 0xd5;
-    if rex2 {
-        let another_map = b1 / 128 % 2 == 1;
-        if another_map {
-            return lay(BAD, false, false, 0, 0, 0, false, 6);
+    let b0 = byte_at(code, 0);
+    let b1 = byte_at(code, 1);
+    let b2 = byte_at(code, 2);
+    match b0 {
+        0x40..=0x4f => {
+            let prefix = Prefix {
+                long: 1,
+                wide: is_set(b0, 3),
+                high_r: bit(b0, 2) << 3,
+                high_b: bit(b0, 0) << 3,
+                branches: true,
+            };
+            prefix.opcode(b1, b2)
         }
-        let wide = b1 / 8 % 2 == 1;
-        let high_r = b1 / 64 % 2 * 16 + b1 / 4 % 2 * 8;
-        let high_b = b1 / 16 % 2 * 16 + b1 / 1 % 2 * 8;
-        return opcode(2, wide, high_r, high_b, false, b2, b3);
-    }
-    let short_address = b0 == 0x67;
-    if short_address {
-        let call = b1 == 0xe8;
-        if call {
-            return lay(CALL, false, false, 0, 0, ADDR, false, 6);
+        0xd5 if is_set(b1, 7) => Form {
+            action: None,
+            long: 6,
+        },
+        0xd5 => {
+            let prefix = Prefix {
+                long: 2,
+                wide: is_set(b1, 3),
+                high_r: bit(b1, 6) << 4 | bit(b1, 2) << 3,
+                high_b: bit(b1, 4) << 4 | bit(b1, 0) << 3,
+                branches: false,
+            };
+            prefix.opcode(b2, byte_at(code, 3))
         }
-        return lay(BAD, false, false, 0, 0, 0, false, 6);
+        0x67 => Form {
+            action: (b1 == 0xe8).then_some(Action::Call(Source::Addr)),
+            long: 6,
+        },
+        _ => {
+            let prefix = Prefix {
+                long: 0,
+                wide: false,
+                high_r: 0,
+                high_b: 0,
+                branches: true,
+            };
+            prefix.opcode(b0, b1)
+        }
     }
-    opcode(0, false, 0, 0, true, b0, b1)
 }
 
 fn byte_at(code: &[u8], i: usize) -> u8
     ensures { result ≡ slice_index code.now i }
 {
-    if i < code.len() {
-        return code[i];
-    }
-    0
-}
-
-// The form that begins a code.
-#[tactic(auto, using(crate::proofs::Laws::four))]
-pub fn decode(code: &[u8]) -> Form
-    ensures { result ≡ layout (machine.decode code.now) }
-{
-    prefixed(
-        byte_at(code, 0),
-        byte_at(code, 1),
-        byte_at(code, 2),
-        byte_at(code, 3),
-    )
+    code.get(i).copied().unwrap_or(0)
 }
 
 // The low bits of x at a width.
 fn low(wide: bool, x: u64) -> u64
     ensures { (result ≡ x % machine.size wide) × (result < machine.size wide) }
 {
-    if wide {
-        return x;
-    }
-    x % 0x1_0000_0000
+    if wide { x } else { x & 0xffff_ffff }
 }
 
-#[tactic(auto, unfolding(rules::specs::Machine::even_parity))]
+#[tactic(auto, using(crate::proofs::Laws::low_byte_ones), unfolding(rules::specs::Machine::even_parity))]
 fn parity(x: u64) -> bool
     ensures { result ≡ machine.even_parity x }
 {
-    let low_bits = x / 1 % 2 + x / 2 % 2 + x / 4 % 2 + x / 8 % 2;
-    let bits = low_bits + x / 16 % 2 + x / 32 % 2 + x / 64 % 2 + x / 128 % 2;
-    bits % 2 == 0
+    (x & 0xff).count_ones() % 2 == 0
 }
 
 #[tactic(auto, unfolding(rules::specs::Machine::negative))]
 fn negative(wide: bool, x: u64) -> bool
     ensures { result ≡ machine.negative wide x }
 {
-    if wide {
-        return 0x8000_0000_0000_0000 <= x;
+    let half = if wide { 1 << 63 } else { 1 << 31 };
+    half <= x
+}
+
+// An instruction's field, and the address after the instruction.
+#[derive(Clone, Copy)]
+struct Field {
+    value: u32,
+    next: u64,
+}
+
+impl Field {
+    // The last four bytes of the instruction of a form that begins `code`, which is loaded at `address`.
+    #[tactic(auto, unfolding(rules::specs::Machine::field4))]
+    fn of(form: Form, code: &[u8], address: u64) -> Field
+        ensures value { result.value ≡ machine.field_at code.now (form.long - 4) }
+        ensures next { result.next ≡ (address + form.long) % machine.word }
+    {
+        let at = form.long as usize - 4;
+        Field {
+            value: u32::from_le_bytes([
+                byte_at(code, at),
+                byte_at(code, at + 1),
+                byte_at(code, at + 2),
+                byte_at(code, at + 3),
+            ]),
+            next: address.wrapping_add(u64::from(form.long)),
+        }
     }
-    0x8000_0000 <= x
-}
 
-// A field of four bytes read as signed, modulo 2^64.
-#[tactic(auto, unfolding(rules::specs::Machine::signed32))]
-fn signed32(d: u64) -> u64
-    requires { d < 2 ^ 32 }
-    ensures { result ≡ machine.signed32 d }
-{
-    let small = d < 0x8000_0000;
-    if small {
-        return d;
+    // The field with its sign, modulo 2^64.
+    #[tactic(auto, unfolding(rules::specs::Machine::signed32))]
+    fn immediate(self) -> u64
+        ensures { result ≡ machine.signed32 self.value }
+    {
+        i64::from(self.value.cast_signed()).cast_unsigned()
     }
-    d + 0xffff_ffff_0000_0000
-}
 
-fn relative(next: u64, field: u64) -> u64
-    requires { field < 2 ^ 32 }
-    ensures { result ≡ (next + machine.signed32 field) % machine.word }
-{
-    std::num::wrapping_add_u64(next, signed32(field))
-}
+    // next + field.
+    fn address(self) -> u64
+        ensures { result ≡ (self.next + machine.signed32 self.value) % machine.word }
+    {
+        self.next.wrapping_add(self.immediate())
+    }
 
-// The operand, with the field and the address after the instruction.
-#[tactic(auto, using(crate::proofs::Laws::loads))]
-fn operand(source: u8, wide: bool, slot: u64, field: u64, next: u64) -> u64
-    requires { field < 2 ^ 32 }
-    ensures next_value { (s : machine.State) → (from_slot (source_of source) ≡ true → machine.read8 s.mem ((next + machine.signed32 field) % machine.word) ≡ slot) → machine.operand (source_of source) wide s field next ≡ result }
-    ensures upper_bound { result < machine.size wide }
-{
-    match source {
-        SLOT => low(wide, slot),
-        IMM => low(wide, signed32(field)),
-        _ => low(wide, relative(next, field)),
+    // The operand, where the slot holds the number `slot`.
+    #[tactic(auto, using(crate::proofs::Laws::loads))]
+    fn operand(self, source: Source, wide: bool, slot: u64) -> u64
+        ensures value { (s : machine.State) → (from_slot (source_of source) ≡ true → machine.read8 s.mem ((self.next + machine.signed32 self.value) % machine.word) ≡ slot) → machine.operand (source_of source) wide s self.value self.next ≡ result }
+        ensures bound { result < machine.size wide }
+    {
+        let value = match source {
+            Source::Slot => slot,
+            Source::Imm => self.immediate(),
+            Source::Addr => self.address(),
+        };
+        low(wide, value)
     }
 }
 
-#[tactic(auto, using(crate::proofs::Laws::put_set))]
-fn put(regs: [u64; 32], k: u8, v: u64) -> [u64; 32]
-    requires { k < 32 }
-    ensures { machine.put (λ i. slice_index regs i) k v ≡ (λ i. slice_index result i) }
+#[tactic(auto, unfolding(rules::specs::Machine::result))]
+fn operate(op: Op, wide: bool, a: u64, b: u64) -> u64
+    requires { b < machine.size wide }
+    ensures { result ≡ machine.result (op_of op) wide a b }
 {
-    let mut out = regs;
-    out[k as usize] = v;
-    out
-}
-
-fn store(target: u8, v: u64, regs: [u64; 32]) -> [u64; 32]
-    ensures { (f : machine.Flags) (m : ℕ → ℕ) → machine.store (target_of target) v (state_by regs f m) ≡ state_by result f m }
-{
-    if target < 32 {
-        return put(regs, target, v);
+    match op {
+        Op::Add => low(wide, a.wrapping_add(b)),
+        Op::Sub => low(wide, a.wrapping_sub(b)),
     }
-    regs
 }
 
-fn flags_by(wide: bool, r: u64, cf: bool, af: bool, of: bool) -> Flags
-    ensures { flags_of result ≡ machine.flags_by wide r cf af of }
+// The flags after an operation with the result r.
+#[tactic(auto, unfolding(rules::specs::Machine::result, rules::specs::Machine::same_sign, rules::specs::Machine::flags_after))]
+fn flags_after(op: Op, wide: bool, a: u64, b: u64, r: u64) -> Flags
+    requires operands { (a < machine.size wide) × (b < machine.size wide) }
+    requires r { r ≡ machine.result (op_of op) wide a b }
+    ensures { flags_of result ≡ machine.flags_after (op_of op) wide a b r }
 {
+    let same = negative(wide, a) == negative(wide, b);
+    let turned = negative(wide, a) != negative(wide, r);
+    let (cf, af, of) = match op {
+        Op::Add => (r < a, 16 <= a % 16 + b % 16, same && turned),
+        Op::Sub => (a < b, a % 16 < b % 16, !same && turned),
+    };
     Flags {
-        cf: cf,
+        cf,
         pf: parity(r),
-        af: af,
+        af,
         zf: r == 0,
         sf: negative(wide, r),
-        of: of,
+        of,
     }
 }
 
-// What an operation gives.
-#[derive(Drop)]
-struct Outcome {
-    value: u64,
-    flags: Flags,
-}
+const RSP: Register = Register { number: 4 };
 
-#[tactic(auto, using(crate::proofs::Laws::sums, crate::proofs::Laws::differs, crate::proofs::Laws::carries), unfolding(rules::specs::Machine::result, rules::specs::Machine::same_sign, rules::specs::Machine::flags_after))]
-fn operate(sub: bool, wide: bool, a: u64, b: u64) -> Outcome
-    requires { (a < machine.size wide) × (b < machine.size wide) }
-    ensures value_value { result.value ≡ machine.result (op_of sub) wide a b }
-    ensures flags_value { flags_of result.flags ≡ machine.flags_after (op_of sub) wide a b result.value }
-{
-    let sign = negative(wide, a);
-    let same = sign == negative(wide, b);
-    if sub {
-        let r = low(wide, std::num::wrapping_sub_u64(a, b));
-        let turned = sign != negative(wide, r);
-        let f = flags_by(wide, r, a < b, a % 16 < b % 16, !same & turned);
-        return Outcome { value: r, flags: f };
+impl State {
+    fn reg(&self, k: Register) -> u64
+        ensures { result ≡ slice_index self.now.regs k.number }
+    {
+        self.regs[k.number as usize]
     }
-    let r = low(wide, std::num::wrapping_add_u64(a, b));
-    let turned = sign != negative(wide, r);
-    let f = flags_by(wide, r, r < a, 16 <= a % 16 + b % 16, same & turned);
-    Outcome { value: r, flags: f }
-}
 
-// No step.
-fn stop(regs: [u64; 32], flags: Flags) -> Stepped
-    ensures { result ≡ stopped regs flags }
-{
-    Stepped {
-        steps: false,
-        regs: regs,
-        flags: flags,
-        next: 0,
-        pushes: false,
-        pushed: 0,
-        at: 0,
+    #[tactic(auto, using(crate::proofs::Laws::put_set))]
+    fn set_reg(&mut self, k: Register, v: u64)
+        ensures regs { machine.put (λ i. slice_index self.old.regs i) k.number v ≡ (λ i. slice_index self.new.regs i) }
+        ensures flags { self.new.flags ≡ self.old.flags }
+    {
+        self.regs[k.number as usize] = v;
     }
-}
 
-// A step that writes no memory.
-fn go(next: u64, regs: [u64; 32], flags: Flags) -> Stepped
-    ensures { Answers (λ m. machine.stepped (state_of regs flags m) next) result }
-{
-    Stepped {
-        steps: true,
-        regs: regs,
-        flags: flags,
-        next: next,
-        pushes: false,
-        pushed: 0,
-        at: 0,
+    fn store(&mut self, target: Option<Register>, v: u64)
+        ensures regs { (f : machine.Flags) (m : ℕ → ℕ) → machine.store (target_of target) v (state_by self.old.regs f m) ≡ state_by self.new.regs f m }
+        ensures flags { self.new.flags ≡ self.old.flags }
+    {
+        if let Some(k) = target {
+            self.set_reg(k, v);
+        }
+    }
+
+    // An operation on the operands a and b, with its target, and whether it sets the flags.
+    #[tactic(auto, unfolding(rules::specs::Machine::exec))]
+    fn exec(&mut self, op: Op, wide: bool, target: Option<Register>, sets: bool, a: u64, b: u64)
+        requires { (a < machine.size wide) × (b < machine.size wide) }
+        ensures { (m : ℕ → ℕ) → machine.exec (op_of op) wide (target_of target) sets a b (state_of self.old m) ≡ state_of self.new m }
+    {
+        let r = operate(op, wide, a, b);
+        self.store(target, r);
+        if sets {
+            self.flags = flags_after(op, wide, a, b, r);
+        }
+    }
+
+    // Pushes v at rsp - 8.
+    #[tactic(auto, unfolding(rules::specs::Machine::push))]
+    fn push(&mut self, v: u64) -> Push
+        ensures { (m : ℕ → ℕ) → machine.push v (state_of self.old m) ≡ state_of self.new (memory_of (Some result) m) }
+    {
+        let at = self.reg(RSP).wrapping_sub(8);
+        self.set_reg(RSP, at);
+        Push { value: v, at }
     }
 }
 
-// An operation on the operands a and b.
-#[tactic(auto, using(crate::proofs::Laws::answers), unfolding(rules::specs::Machine::exec))]
-fn exec(
-    sub: bool,
-    wide: bool,
-    target: u8,
-    sets: bool,
-    a: u64,
-    b: u64,
-    next: u64,
-    regs: [u64; 32],
-    flags: Flags,
-) -> Stepped
-    requires { (a < machine.size wide) × (b < machine.size wide) }
-    ensures { Answers (λ m. machine.stepped (machine.exec (op_of sub) wide (target_of target) sets a b (state_of regs flags m)) next) result }
+// What an action does, with its field and what its slot holds.
+fn perform(action: Action, field: Field, slot: u64, mut state: State) -> Stepped
+    ensures { (m : ℕ → ℕ) → SlotHolds (action_of (Some action)) field.value field.next slot m → machine.perform (action_of (Some action)) field.value field.next (state_of state m) ≡ answer_of (Some result) m }
 {
-    let r = operate(sub, wide, a, b);
-    let f = r.flags;
-    let out = store(target, r.value, regs);
-    if sets {
-        return go(next, out, f);
-    }
-    go(next, out, flags)
-}
-
-// A call: next is pushed at rsp - 8.
-#[tactic(auto, using(crate::proofs::Laws::falls), unfolding(rules::specs::Machine::push))]
-fn call(next: u64, to: u64, regs: [u64; 32], flags: Flags) -> Stepped
-    ensures { Answers (λ m. machine.stepped (machine.push next (state_of regs flags m)) to) result }
-{
-    let sp = std::num::wrapping_sub_u64(regs[4], 8);
-    let out = put(regs, 4, sp);
-    Stepped {
-        steps: true,
-        regs: out,
-        flags: flags,
-        next: to,
-        pushes: true,
-        pushed: next,
-        at: sp,
-    }
-}
-
-// What an action does, with the field, the address after the instruction and what its slot holds.
-#[tactic(auto, using(crate::proofs::Laws::tidy))]
-fn perform(form: Form, field: u64, next: u64, slot: u64, regs: [u64; 32], flags: Flags) -> Stepped
-    requires { Small form × (field < 2 ^ 32) }
-    ensures by_index { (m : ℕ → ℕ) → SlotHolds (action_of form) field next slot m → machine.perform (action_of form) field next (state_of regs flags m) ≡ answer_of result m }
-    ensures tidy { Tidy regs flags result }
-{
-    let action = form.action;
-    let wide = form.wide;
-    let source = form.source;
+    let mut next = field.next;
+    let mut push = None;
     match action {
-        MOVE => {
-            let v = operand(source, wide, slot, field, next);
-            go(next, put(regs, form.target, v), flags)
+        Action::Move {
+            wide,
+            target,
+            source,
+        } => state.set_reg(target, field.operand(source, wide, slot)),
+        Action::Alu {
+            op,
+            wide,
+            target,
+            first,
+            source,
+            sets,
+        } => {
+            let a = low(wide, state.reg(first));
+            let b = field.operand(source, wide, slot);
+            state.exec(op, wide, target, sets, a, b);
         }
-        ALU => {
-            let a = low(wide, regs[form.first as usize]);
-            let b = operand(source, wide, slot, field, next);
-            exec(
-                form.sub,
-                wide,
-                form.target,
-                form.sets,
-                a,
-                b,
-                next,
-                regs,
-                flags,
-            )
+        Action::Call(source) => {
+            push = Some(state.push(next));
+            next = field.operand(source, true, slot);
         }
-        CALL => call(next, operand(source, true, slot, field, next), regs, flags),
-        JUMP => go(operand(source, true, slot, field, next), regs, flags),
-        _ => stop(regs, flags),
+        Action::Jump(source) => next = field.operand(source, true, slot),
     }
-}
-
-// The field of four bytes at byte h.
-#[tactic(auto, unfolding(rules::specs::Machine::field4))]
-fn field_at(code: &[u8], h: usize) -> u64
-    requires { h < 1000 }
-    ensures { (result ≡ machine.field_at code.now h) × (result < 2 ^ 32) }
-{
-    let b0 = byte_at(code, h) as u64;
-    let b1 = byte_at(code, h + 1) as u64;
-    let b2 = byte_at(code, h + 2) as u64;
-    let b3 = byte_at(code, h + 3) as u64;
-    b0 + b1 * 0x100 + b2 * 0x1_0000 + b3 * 0x100_0000
+    Stepped { state, next, push }
 }
 
 // The step of the instruction that begins `code`, which is loaded at `address`; `slot` is what the 8
 // bytes of its slot hold.
-#[tactic(auto, using(crate::proofs::Laws::decoded), unfolding(rules::specs::Machine::step_at))]
-pub fn step(code: &[u8], address: u64, slot: u64, regs: [u64; 32], flags: Flags) -> Stepped
-    ensures by_index { (m : ℕ → ℕ) → CodeSlotHolds code.now address slot m → machine.step_at code.now address (state_of regs flags m) ≡ answer_of result m }
-    ensures tidy { Tidy regs flags result }
+#[tactic(auto, unfolding(rules::specs::Machine::step_at))]
+pub fn step(code: &[u8], address: u64, slot: u64, state: State) -> Option<Stepped>
+    ensures { (m : ℕ → ℕ) → CodeSlotHolds code.now address slot m → machine.step_at code.now address (state_of state m) ≡ answer_of result m }
 {
     let form = decode(code);
-    let n = form.long;
-    let whole = n as usize <= code.len();
-    if whole {
-        let field = field_at(code, n as usize - 4);
-        let next = std::num::wrapping_add_u64(address, n as u64);
-        return perform(form, field, next, slot, regs, flags);
+    if code.len() < form.long as usize {
+        return None;
     }
-    stop(regs, flags)
+    let field = Field::of(form, code, address);
+    Some(perform(form.action?, field, slot, state))
 }
 
 // The address of the slot of the instruction that begins `code`, which is loaded at `address`: next + field.
-#[tactic(auto, using(crate::proofs::Laws::decoded))]
 pub fn slot_address(code: &[u8], address: u64) -> u64
     ensures { result ≡ code_slot code.now address }
 {
-    let form = decode(code);
-    let n = form.long;
-    let field = field_at(code, n as usize - 4);
-    relative(std::num::wrapping_add_u64(address, n as u64), field)
+    Field::of(decode(code), code, address).address()
 }

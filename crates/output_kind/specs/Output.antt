@@ -1,12 +1,11 @@
 -- The code's `OutputKind` in document 01's numbers. Assumes nothing.
-use Rattle.std.specs.Prelude.{Bool, true, false, ℕ}
-use Rattle.rules.specs.Answer.{Answer, gives, refuses}
-use Rattle.output_kind.specs.declared.RelocationModel.{RelocationModel}
+use Rattle.std.specs.Prelude.{◌≡◌, ℕ, Result, Ok, Err}
+use Rattle.refusal.specs.declared.Refusal.{Refusal}
+use Rattle.rules.specs.Answer.{Answer}
+use Rattle.rules.specs.Record.{output_kind_of}
 use Rattle.output_kind.specs.declared.RelocationModel.TheVariants.{Fixed, PositionIndependent}
 use Rattle.output_kind.specs.declared.OutputKind.{OutputKind}
 use Rattle.output_kind.specs.declared.OutputKind.TheVariants.{StaticExecutable, DynamicExecutable, SharedObject, PartialLink}
-use Rattle.output_kind.specs.declared.OutputKindFound.{OutputKindFound}
-use Rattle.output_kind.specs.declared.OutputKindFound.TheVariants.{Is, Refused}
 
 -- 0 static fixed, 1 static position-independent, 2 dynamic fixed, 3 dynamic position-independent, 4 shared object, 5 partial link
 abbrev pub output_number : OutputKind → ℕ
@@ -17,15 +16,10 @@ output_number (DynamicExecutable PositionIndependent) = 3
 output_number SharedObject = 4
 output_number PartialLink = 5
 
-abbrev pub output_answer : OutputKindFound → Answer ℕ
-output_answer (Is kind) = gives (output_number kind)
-output_answer (Refused n) = refuses n
+abbrev pub output_answer : Result OutputKind Refusal → Answer ℕ
+output_answer (Ok kind) = Ok (output_number kind)
+output_answer (Err n) = Err n
 
--- the two relocation models
-abbrev pub fixed : RelocationModel → Bool
-fixed Fixed = true
-fixed PositionIndependent = false
-
-abbrev pub independent : RelocationModel → Bool
-independent Fixed = false
-independent PositionIndependent = true
+-- what a number gives
+abbrev pub Read : ℕ → Result OutputKind Refusal → Type 0
+Read n r = output_answer r ≡ output_kind_of n

@@ -2,16 +2,18 @@
 #![tactic(auto)]
 
 ghost use Rattle.std.specs.Prelude.{◌≡◌};
-ghost use Rattle.rules.specs.Record.{output_kind_of, is_f, is_s, is_e, is_p};
-ghost use Rattle.output_kind.specs.Output.{output_number, output_answer, fixed, independent};
+ghost use Rattle.rules.specs.Record.{is_f, is_s, is_e, is_p};
+ghost use Rattle.output_kind.specs.Output.{output_number, Read};
 
-#[derive(Clone, Copy)]
+use refusal::Refusal;
+
+#[derive(Clone, Copy, Debug, PartialEq, Eq, Hash)]
 pub enum RelocationModel {
     Fixed,
     PositionIndependent,
 }
 
-#[derive(Clone, Copy)]
+#[derive(Clone, Copy, Debug, PartialEq, Eq, Hash)]
 pub enum OutputKind {
     StaticExecutable(RelocationModel),
     DynamicExecutable(RelocationModel),
@@ -19,55 +21,42 @@ pub enum OutputKind {
     PartialLink,
 }
 
-#[derive(Clone, Copy)]
-pub enum OutputKindFound {
-    Is(OutputKind),
-    Refused(u8),
+// The kind of a number of document 01, or refusal 4.
+impl TryFrom<u8> for OutputKind {
+    type Error = Refusal;
+
+    ghost try_from_gives = { Read };
+
+    #[tactic(auto, unfolding(rules::specs::Record::output_kind_of))]
+    fn try_from(number: u8) -> Result<OutputKind, Refusal> {
+        match number {
+            0 => Ok(OutputKind::StaticExecutable(RelocationModel::Fixed)),
+            1 => Ok(OutputKind::StaticExecutable(RelocationModel::PositionIndependent)),
+            2 => Ok(OutputKind::DynamicExecutable(RelocationModel::Fixed)),
+            3 => Ok(OutputKind::DynamicExecutable(RelocationModel::PositionIndependent)),
+            4 => Ok(OutputKind::SharedObject),
+            5 => Ok(OutputKind::PartialLink),
+            _ => Err(Refusal::OutputKindNumber),
+        }
+    }
 }
 
 impl OutputKind {
-    // The kind of a number of document 01, or refusal 4.
-    #[tactic(auto, unfolding(rules::specs::Record::output_kind_of))]
-    pub fn from_number(number: u8) -> OutputKindFound
-        ensures { output_answer result ≡ output_kind_of number }
-    {
-        match number {
-            0 => OutputKindFound::Is(OutputKind::StaticExecutable(RelocationModel::Fixed)),
-            1 => OutputKindFound::Is(OutputKind::StaticExecutable(
-                RelocationModel::PositionIndependent,
-            )),
-            2 => OutputKindFound::Is(OutputKind::DynamicExecutable(RelocationModel::Fixed)),
-            3 => OutputKindFound::Is(OutputKind::DynamicExecutable(
-                RelocationModel::PositionIndependent,
-            )),
-            4 => OutputKindFound::Is(OutputKind::SharedObject),
-            5 => OutputKindFound::Is(OutputKind::PartialLink),
-            _ => OutputKindFound::Refused(4),
-        }
-    }
-
     // E
     pub fn is_executable(self) -> bool
         ensures { result ≡ is_e (output_number self) }
     {
-        match self {
-            OutputKind::StaticExecutable(_) => true,
-            OutputKind::DynamicExecutable(_) => true,
-            OutputKind::SharedObject => false,
-            OutputKind::PartialLink => false,
-        }
+        matches!(
+            self,
+            OutputKind::StaticExecutable(_) | OutputKind::DynamicExecutable(_)
+        )
     }
 
     // S
     pub fn is_static_executable(self) -> bool
         ensures { result ≡ is_s (output_number self) }
     {
-        match self {
-            OutputKind::StaticExecutable(_) => true,
-            OutputKind::DynamicExecutable(_) => false,
-            OutputKind::SharedObject => false,
-            OutputKind::PartialLink => false,
-        }
+        matches!(self, OutputKind::StaticExecutable(_))
     }
 
     // P
@@ -76,8 +65,9 @@ impl OutputKind {
     {
         match self {
             OutputKind::SharedObject => true,
-            OutputKind::DynamicExecutable(model) => model.is_position_independent(),
-            OutputKind::StaticExecutable(model) => model.is_position_independent(),
+            OutputKind::DynamicExecutable(model) | OutputKind::StaticExecutable(model) => {
+                model == RelocationModel::PositionIndependent
+            }
             OutputKind::PartialLink => false,
         }
     }
@@ -87,30 +77,10 @@ impl OutputKind {
         ensures { result ≡ is_f (output_number self) }
     {
         match self {
-            OutputKind::StaticExecutable(model) => model.is_fixed(),
-            OutputKind::DynamicExecutable(model) => model.is_fixed(),
-            OutputKind::SharedObject => false,
-            OutputKind::PartialLink => false,
-        }
-    }
-}
-
-impl RelocationModel {
-    fn is_fixed(self) -> bool
-        ensures { result ≡ fixed self }
-    {
-        match self {
-            RelocationModel::Fixed => true,
-            RelocationModel::PositionIndependent => false,
-        }
-    }
-
-    fn is_position_independent(self) -> bool
-        ensures { result ≡ independent self }
-    {
-        match self {
-            RelocationModel::Fixed => false,
-            RelocationModel::PositionIndependent => true,
+            OutputKind::StaticExecutable(model) | OutputKind::DynamicExecutable(model) => {
+                model == RelocationModel::Fixed
+            }
+            OutputKind::SharedObject | OutputKind::PartialLink => false,
         }
     }
 }

@@ -1,149 +1,146 @@
--- A step by its verdict is the step that the rules have, with the pass and the section afterwards: one law for each way that a step ends.
+-- What `accept` returns at each of its ends is the step that the rules have, and so is the section there.
 -- Assumes nothing.
-use mathlib.Core.Path.{◌≡◌, refl, sym, subst}
-use mathlib.Core.Bool.{Bool, true, false, cond, false≢true}
+use Rattle.std.specs.Prelude.{Option, Some, None, Result, Ok, Err}
+use mathlib.Core.Path.{◌≡◌, refl, sym, ap, subst, ◌∙◌}
+use mathlib.Core.Bool.{Bool, true, false}
 use mathlib.Core.List.{List}
 use Prim.Native.Nat.{ℕ}
 use lib.Dec.{ltb}
 use lib.ListN.{length}
-use Rattle.x86_64_kind.specs.declared.RelaxationKind.{RelaxationKind}
-use Rattle.x86_64_kind.specs.Kinds.{begin, end, is_empty, inside}
+use Rattle.x86_64_kind.specs.declared.Window.{Window}
+use Rattle.x86_64_kind.specs.Kinds.{begin, is_empty, inside, skips}
 use Rattle.rules.specs.declared.Relocation.{Relocation}
-use Rattle.rules.specs.Answer.{Answer, gives, refuses}
+use Rattle.rules.specs.Answer.{Answer}
+use Rattle.refusal.specs.declared.Refusal.{Refusal}
+use Rattle.refusal.specs.declared.Refusal.TheVariants.{OffsetBelowLast, PassEnded}
 use Rattle.rules.specs.Record.{link_limit}
 use Rattle.rules.specs.Choose.{none, chosen, choosing}
-use Rattle.rules.specs.Rewrite.{Rewritten, Relaxed, unrelaxed, relaxed, rewrite, claims, relax_chosen, relaxing, after_relaxing}
-use Rattle.rules.specs.Meaning.{SameMeaning}
-use Rattle.rules.proofs.Theorem.{same_meaning_of}
+use Rattle.rules.specs.Rewrite.{claims, relax_chosen, relaxing, after_relaxing}
 use Rattle.elf_x86_64_relaxation.specs.declared.Relaxation.{Relaxation}
-use Rattle.elf_x86_64_relaxation.specs.declared.Choice.{Choice}
-use Rattle.elf_x86_64_relaxation.specs.declared.Choice.TheVariants as Choices
-use Rattle.elf_x86_64_relaxation.specs.Choices.{relaxation, choice_of}
-use Rattle.relax.specs.Answers.{relaxed_of}
+use Rattle.elf_x86_64_relaxation.specs.Choices.{choice_of}
+use Rattle.relax.specs.declared.Relaxed.{Relaxed}
+use Rattle.relax.specs.Answers.{relaxed_of, done, Relaxes}
 use Rattle.pass.specs.declared.Pass.{Pass}
-use Rattle.pass.specs.declared.Stepped.{Stepped}
-use Rattle.pass.specs.declared.Verdict.{Verdict}
-use Rattle.pass.specs.declared.Verdict.TheVariants.{Refuse, Skip, Leave, Relax}
-use Rattle.pass.specs.Pass.{is_pending, is_type0, passing, Accepted, took, skipped, checked, clearing, stepping, pass_left, bytes_after}
-use Rattle.pass.specs.Answers.{taken, step_of, step, placed, verdict_of, took_step, skipped_step, refused_step}
+use Rattle.pass.specs.declared.Step.{Step}
+use Rattle.pass.specs.declared.Step.TheVariants.{Took, Skipped}
+use Rattle.pass.specs.Pass.{Accepted, passed, cleared, pending, is_type0, checked, clearing, stepping, pass_left, bytes_after}
+use Rattle.pass.specs.Answers.{Taken, taken, step_of, step, placed, accepting}
 use Rattle.rules.specs.Choose as rules
-use Rattle.relax.specs.declared.Relaxed.TheVariants as answer
 
--- what a step answers, by the rules' answer
-abbrev stepped : Pass → Relocation → Answer Accepted → Stepped
-stepped p r s = record { pass = pass_left p r s; step = step_of s }
+-- the rules' choice, by the code's
+chosen_of : Result (Option Relaxation) Refusal → Answer rules.Choice
+chosen_of (Ok None) = Ok none
+chosen_of (Ok (Some x)) = Ok (chosen x.kind x.new_type x.mandatory)
+chosen_of (Err n) = Err n
 
-not-ended : (b : Bool) (s : Answer Accepted) → b ≡ false → s ≡ cond b (refuses 21) s
-not-ended true s h = absurd (false≢true (sym h))
-not-ended false s h = refl
+by_code : (a : Answer rules.Choice) → a ≡ chosen_of (choice_of a)
+unfolding chosen_of
+by_code (Ok none) = refl
+by_code (Ok (chosen k t m)) = refl
+by_code (Err n) = refl
 
 module _ (p : Pass) (sec : List ℕ) (r : Relocation) where
-  -- what the code does by a verdict, given relaxing's answer: its own answer, and the section
-  abbrev does : Verdict → Answer Relaxed → Stepped
-  does (Refuse n) a = refused_step p n
-  does Skip a = skipped_step p r
-  does Leave a = took_step p r 0 answer.Nothing
-  does (Relax w x) a = took_step p r w (relaxed_of a)
+  -- the clause of `accept`
+  abbrev pub Holds : Answer (Pass × Step) → List ℕ → Type 0
+  Holds a new = (a, new) ≡ accepting p sec r (stepping p sec r)
 
-  abbrev leaves : Verdict → Answer Relaxed → List ℕ
-  leaves (Relax w x) a = after_relaxing sec a
-  leaves (Refuse n) a = sec
-  leaves Skip a = sec
-  leaves Leave a = sec
+  pub by_ended : p.ended ≡ true → Holds (Err PassEnded) sec
+  unfolding stepping bytes_after
+  by_ended h = rw h
 
-  -- an answer of the rules is what the code does
-  abbrev Says : Answer Accepted → Verdict → Answer Relaxed → Type 0
-  Says s v a = (does v a ≡ stepped p r s) × (leaves v a ≡ bytes_after sec s)
+  chosen_is : (c : Result (Option Relaxation) Refusal) → c ≡ choice_of (choosing link_limit sec r) → choosing link_limit sec r ≡ chosen_of c
+  chosen_is c e = by_code (choosing link_limit sec r) ∙ ap chosen_of (sym e)
 
-  -- 6, 23, and the window's end
-  says_placed :
-      (k : RelaxationKind) (t : ℕ) (m : Bool) (y : Rewritten) (fit empty before : Bool)
-      → is_empty (claims k t) ≡ empty → ltb (begin (claims k t) r.offset) p.window ≡ before
-      → Says (clearing p r (cond fit (gives (relaxed k t m y)) (refuses 6)))
-      (cond fit (cond empty (Relax p.window (relaxation k t m)) (cond before (Refuse 23) (Relax (end (claims k t) r.offset) (relaxation k t m)))) (Relax p.window (relaxation k t m)))
-      (cond fit (gives (relaxed k t m y)) (refuses 6))
-  unfolding clearing pass_left bytes_after after_relaxing
-  says_placed k t m y false empty before e b = (refl, refl)
-  says_placed k t m y true true before e b = rw (e, e) (refl, refl)
-  says_placed k t m y true false true e b = rw (e, b) (refl, refl)
-  says_placed k t m y true false false e b = rw (e, b, e) (refl, refl)
+  pub by_refusal : (n : Refusal) → p.ended ≡ false → Err n ≡ choice_of (choosing link_limit sec r) → Holds (Err n) sec
+  unfolding stepping checked bytes_after chosen_of
+  by_refusal n h e = rw (h, chosen_is (Err n) e)
 
-  -- 22, then the skip
-  says_in_order :
-      (below skip type0 : Bool) (s : Answer Accepted) (v : Verdict) (a : Answer Relaxed) → Says s v a
-      → Says (cond below (refuses 22) (cond skip (cond type0 (gives (took unrelaxed)) (gives skipped)) s)) (cond below (Refuse 22) (cond skip (cond type0 Leave Skip) v)) a
-  unfolding pass_left bytes_after after_relaxing
-  says_in_order true skip type0 s v a h = (refl, refl)
-  says_in_order false true true s v a h = (refl, refl)
-  says_in_order false true false s v a h = (refl, refl)
-  says_in_order false false type0 s v a h = h
+  module _ (c : Option Relaxation) (h : p.ended ≡ false) (e : Ok c ≡ choice_of (choosing link_limit sec r)) where
+    checks : (s : Answer Accepted) → checked (choosing link_limit sec r) s ≡ s
+    unfolding checked chosen_of
+    checks s = rw (chosen_is (Ok c) e) (by c) where
+      by : (c : Option Relaxation) → checked (chosen_of (Ok c)) s ≡ s
+      by None = refl
+      by (Some x) = refl
 
-  says_choice : (c : Answer rules.Choice)
-      → Says
-      (checked c (cond (ltb r.offset p.last) (refuses 22) (cond (is_pending p) (passing r) (clearing p r (relax_chosen sec r c)))))
-      (verdict_of p (choice_of c) (length sec) r)
-      (relax_chosen sec r c)
-  unfolding checked relax_chosen clearing pass_left bytes_after after_relaxing
-  says_choice (refuses n) = (refl, refl)
-  says_choice (gives none) = says_in_order (ltb r.offset p.last) (is_pending p) (is_type0 r) (gives (took unrelaxed)) Leave (gives unrelaxed) (refl, refl)
-  says_choice (gives (chosen k t m)) =
-      says_in_order (ltb r.offset p.last) (is_pending p) (is_type0 r) _ _ _
-      (says_placed k t m (rewrite k sec r.offset r.addend) (inside (claims k t) (length sec) r.offset) (is_empty (claims k t)) (ltb (begin (claims k t) r.offset) p.window) refl refl)
+    pub by_offset : ltb r.offset p.last ≡ true → Holds (Err OffsetBelowLast) sec
+    unfolding stepping bytes_after
+    by_offset l = rw (h, checks, l)
 
-  -- ---- the two clauses of a step
+    pub by_type0 : ltb r.offset p.last ≡ false → p.skip ≡ true → is_type0 r ≡ true → Holds (Ok (passed r p, Took None)) sec
+    unfolding stepping pass_left bytes_after after_relaxing
+    by_type0 l s z = rw (h, checks, l, s, z)
 
-  abbrev pub Holds : Stepped → List ℕ → Type 0
-  Holds s new = (taken s new ≡ step p sec r) × SameMeaning sec
+    pub by_skip : ltb r.offset p.last ≡ false → p.skip ≡ true → is_type0 r ≡ false → Holds (Ok (pending false (passed r p), Skipped)) sec
+    unfolding stepping pass_left bytes_after
+    by_skip l s z = rw (h, checks, l, s, z)
 
-  pub by_ended : p.ended ≡ true → Holds (refused_step p 21) sec
-  unfolding step stepping pass_left bytes_after
-  by_ended h = (rw h, same_meaning_of sec)
+  pub by_none : p.ended ≡ false → Ok None ≡ choice_of (choosing link_limit sec r) → ltb r.offset p.last ≡ false → p.skip ≡ false → Holds (Ok (passed r p, Took None)) sec
+  unfolding stepping checked clearing relaxing relax_chosen pass_left bytes_after after_relaxing chosen_of
+  by_none h e l s = rw (h, chosen_is (Ok None) e, l, s)
 
-  abbrev pub Follows : Verdict → Type 0
-  Follows v = Holds (does v (relaxing link_limit sec r)) (leaves v (relaxing link_limit sec r))
+  -- ---- a choice that is to be carried out
 
-  -- behind 21
-  rest : Answer Accepted
-  rest =
-      checked (choosing link_limit sec r)
-      (cond (ltb r.offset p.last) (refuses 22) (cond (is_pending p) (passing r) (clearing p r (relaxing link_limit sec r))))
+  module _
+      (x : Relaxation) (e : Ok (Some x) ≡ choice_of (choosing link_limit sec r)) (h : p.ended ≡ false) (l : ltb r.offset p.last ≡ false)
+      (s : p.skip ≡ false)
+    where
+      steps_is : stepping p sec r ≡ clearing p r (relaxing link_limit sec r)
+      unfolding stepping checked chosen_of
+      steps_is = rw (h, chosen_is (Ok (Some x)) e, l, s)
 
-  pub follows : (c : Choice) → p.ended ≡ false → c ≡ choice_of (choosing link_limit sec r) → Follows (verdict_of p c (length sec) r)
-  unfolding step stepping relaxing rest
-  follows c h e =
-      let s = says_choice (choosing link_limit sec r) in
-      let v = verdict_of p (choice_of (choosing link_limit sec r)) (length sec) r in
-      let a = relaxing link_limit sec r in
-      rw e (subst (λ (x : Answer Accepted). taken (does v a) (leaves v a) ≡ taken (stepped p r x) (bytes_after sec x)) (not-ended p.ended rest h) (rw (s.0, s.1)), same_meaning_of sec)
+      relaxing_is : relaxing link_limit sec r ≡ relax_chosen sec r (Ok (chosen x.kind x.new_type x.mandatory))
+      unfolding relaxing chosen_of
+      relaxing_is = rw (chosen_is (Ok (Some x)) e)
 
--- ---- a verdict to relax has the choice
+      -- the pass and the step by relaxing's answer, where the window's end is known
+      abbrev closing : ℕ → Bool → Result (Option Relaxed) Refusal → Answer (Pass × Step)
+      closing w k (Ok (Some y)) = Ok (pending k (cleared w (passed r p)), Took (Some y))
+      closing w k (Ok None) = Ok (passed r p, Took None)
+      closing w k (Err n) = Err n
 
-abbrev Came : Choice → Verdict → Type 0
-Came c (Relax w x) = Choices.Chosen x ≡ c
-Came c (Refuse n) = Unit {0}
-Came c Skip = Unit {0}
-Came c Leave = Unit {0}
+      abbrev window : Window
+      window = claims x.kind x.new_type
 
-module _ (c : Choice) where
-  in_order : (below skip type0 : Bool) (v : Verdict) → Came c v → Came c (cond below (Refuse 22) (cond skip (cond type0 Leave Skip) v))
-  in_order true skip type0 v h = tt
-  in_order false true true v h = tt
-  in_order false true false v h = tt
-  in_order false false type0 v h = h
+      -- `placed` and relaxing together give the step
+      abbrev Goes : Answer ℕ → Type 0
+      Goes (Ok w) =
+          (closing w (skips x.kind) (relaxed_of (relaxing link_limit sec r)), after_relaxing sec (relaxing link_limit sec r))
+          ≡ accepting p sec r (stepping p sec r)
+      Goes (Err n) = Holds (Err n) sec
 
-place : (x : Relaxation) (fit empty before : Bool) (w e : ℕ) → Came (Choices.Chosen x) (cond fit (cond empty (Relax w x) (cond before (Refuse 23) (Relax e x))) (Relax w x))
-place x false empty before w e = refl
-place x true true before w e = refl
-place x true false true w e = tt
-place x true false false w e = refl
+      goes :
+          (fit empty before : Bool) → inside window (length sec) r.offset ≡ fit → is_empty window ≡ empty → ltb (begin window r.offset) p.window ≡ before
+          → Goes (placed p x (length sec) r.offset)
+      unfolding clearing relax_chosen pass_left bytes_after after_relaxing
+      goes false empty before f m b = rw (f, steps_is, relaxing_is, f)
+      goes true true before f m b = rw (f, m, steps_is, relaxing_is, f, m, m)
+      goes true false true f m b = rw (f, m, b, steps_is, relaxing_is, f, m, b)
+      goes true false false f m b = rw (f, m, b, steps_is, relaxing_is, f, m, b, m)
 
-came : (p : Pass) (c : Choice) (len : ℕ) (r : Relocation) → Came c (verdict_of p c len r)
-came p (Choices.Refused n) len r = tt
-came p Choices.Nothing len r = in_order Choices.Nothing (ltb r.offset p.last) (is_pending p) (is_type0 r) Leave tt
-came p (Choices.Chosen x) len r =
-    let w = claims x.kind x.new_type in
-    in_order (Choices.Chosen x) (ltb r.offset p.last) (is_pending p) (is_type0 r) (placed p x len r.offset)
-    (place x (inside w len r.offset) (is_empty w) (ltb (begin w r.offset) p.window) p.window (end w r.offset))
+      pub by_overlap : (n : Refusal) → Err n ≡ placed p x (length sec) r.offset → Holds (Err n) sec
+      by_overlap n q = subst Goes (sym q) (goes _ _ _ refl refl refl)
 
-pub of_relax : (p : Pass) (c : Choice) (len : ℕ) (r : Relocation) (w : ℕ) (x : Relaxation) → verdict_of p c len r ≡ Relax w x → Choices.Chosen x ≡ c
-of_relax p c len r w x e = subst (Came c) e (came p c len r)
+      pub by_relaxing :
+          (w : ℕ) → Ok w ≡ placed p x (length sec) r.offset → (k : Bool) → k ≡ skips x.kind → {a : Result Relaxed Refusal} {new : List ℕ} → Relaxes sec r a new
+          → Holds (closing w k (done a)) new
+      by_relaxing w q k b g = rw (g.answer, g.bytes, b) (subst Goes (sym q) (goes _ _ _ refl refl refl))
+
+  -- ---- `step`, by what `accept` returns
+
+  taken_of : Answer (Pass × Step) × List ℕ → Taken
+  taken_of (Ok (q, s), new) = taken (record { pass = q; step = Ok s }) new
+  taken_of (Err n, new) = taken (record { pass = p; step = Err n }) new
+
+  takes : (a : Answer Accepted) → taken_of (accepting p sec r a) ≡ taken (record { pass = pass_left p r a; step = step_of a }) (bytes_after sec a)
+  unfolding taken_of pass_left
+  takes (Ok a) = refl
+  takes (Err n) = refl
+
+  pub by_accepted : (q : Pass) (s : Step) (new : List ℕ) → Holds (Ok (q, s)) new → taken (record { pass = q; step = Ok s }) new ≡ step p sec r
+  unfolding taken_of step
+  by_accepted q s new e = ap taken_of e ∙ takes (stepping p sec r)
+
+  pub by_refused : (n : Refusal) (new : List ℕ) → Holds (Err n) new → taken (record { pass = p; step = Err n }) new ≡ step p sec r
+  unfolding taken_of step
+  by_refused n new e = ap taken_of e ∙ takes (stepping p sec r)

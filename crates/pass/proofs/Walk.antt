@@ -1,5 +1,6 @@
 -- What holds of every walk, by induction over the records: what one answer says of the pass and the section is what the rest goes on from.
 -- Assumes nothing.
+use Rattle.std.specs.Prelude.{Ok, Err}
 use mathlib.Core.Path.{◌≡◌, refl, sym, ap, subst, ◌∙◌}
 use mathlib.Core.Logic.{◌⊎◌, inl, inr}
 use mathlib.Core.Bool.{Bool, true, false, cond, ◌||◌, false≢true}
@@ -10,7 +11,8 @@ use native.Mathlib.Omega.{arith}
 use lib.Dec.{eqb, ltb}
 use lib.ListN.{length, get_or}
 use borrow.Author.Tests.{ltb-true, ltb-false, eqb-true, eqb-false}
-use Rattle.rules.specs.Answer.{Answer, gives, refuses}
+use Rattle.rules.specs.Answer.{Answer}
+use Rattle.refusal.specs.declared.Refusal.TheVariants.{PassEnded, SkipPending}
 use Rattle.x86_64_kind.specs.declared.RelaxationKind.{RelaxationKind}
 use Rattle.x86_64_kind.specs.declared.Window.{Window}
 use Rattle.x86_64_kind.specs.Kinds.{is_empty, begin, end, inside}
@@ -49,10 +51,10 @@ side i b = by (ltb i b) refl where
 module _ (p : Pass) (sec : List ℕ) (r : Relocation) where
   rises : (a : Answer Accepted) (os : List ℕ) → Sound p sec r a → Rising (pass_left p r a).last os → Rising p.last (offset_of r.offset a ++ os)
   unfolding pass_left
-  rises (refuses n) os s h = h
-  rises (gives skipped) os s h = (ltb-false _ _ s.1, h)
-  rises (gives (took unrelaxed)) os s h = (ltb-false _ _ s.1, h)
-  rises (gives (took (relaxed k t m x))) os s h = (ltb-false _ _ s.1, h)
+  rises (Err n) os s h = h
+  rises (Ok skipped) os s h = (ltb-false _ _ s.1, h)
+  rises (Ok (took unrelaxed)) os s h = (ltb-false _ _ s.1, h)
+  rises (Ok (took (relaxed k t m x))) os s h = (ltb-false _ _ s.1, h)
 
   -- a relaxed record's window: where it begins, and what it holds
   clears :
@@ -70,10 +72,10 @@ module _ (p : Pass) (sec : List ℕ) (r : Relocation) where
 
   stays_apart : (a : Answer Accepted) (xs : List Part) → Sound p sec r a → Apart (pass_left p r a).window xs → Apart p.window (part_of r.offset a ++ xs)
   unfolding pass_left
-  stays_apart (refuses n) xs s h = h
-  stays_apart (gives skipped) xs s h = h
-  stays_apart (gives (took unrelaxed)) xs s h = h
-  stays_apart (gives (took (relaxed k t m x))) xs s h = clears (claims k t) (is_empty (claims k t)) xs refl s.2.2 h
+  stays_apart (Err n) xs s h = h
+  stays_apart (Ok skipped) xs s h = h
+  stays_apart (Ok (took unrelaxed)) xs s h = h
+  stays_apart (Ok (took (relaxed k t m x))) xs s h = clears (claims k t) (is_empty (claims k t)) xs refl s.2.2 h
 
   -- a byte lies outside a window that is empty
   misses :
@@ -84,16 +86,16 @@ module _ (p : Pass) (sec : List ℕ) (r : Relocation) where
   misses w true i xs e h = (rw (eqb-true w.size 0 e, add-zero (begin w r.offset)) (side i (begin w r.offset)), h)
 
   -- the section once a record is relaxed: rewriting keeps every byte outside the window
-  rewrites : (k : RelaxationKind) (t : ℕ) (m : Bool) (x : Rewritten) → relaxing link_limit sec r ≡ gives (relaxed k t m x)
+  rewrites : (k : RelaxationKind) (t : ℕ) (m : Bool) (x : Rewritten) → relaxing link_limit sec r ≡ Ok (relaxed k t m x)
       → Kept (begin (claims k t) r.offset) (end (claims k t) r.offset) sec x.bytes
   rewrites k t m x e = let f = relaxing_rewrites sec r k t m x e in rw f.1 (kept sec r.offset k t (within (claims k t) (length sec) r.offset f.0).0)
 
   keeps : (a : Answer Accepted) (i : ℕ) (xs : List Part) → Sound p sec r a → Outside i (part_of r.offset a ++ xs) → (get_or (bytes_after sec a) i 0 ≡ get_or sec i 0) × Outside i xs
   unfolding bytes_after after_relaxing
-  keeps (refuses n) i xs s h = (refl, h)
-  keeps (gives skipped) i xs s h = (refl, h)
-  keeps (gives (took unrelaxed)) i xs s h = (refl, h)
-  keeps (gives (took (relaxed k t m x))) i xs s h =
+  keeps (Err n) i xs s h = (refl, h)
+  keeps (Ok skipped) i xs s h = (refl, h)
+  keeps (Ok (took unrelaxed)) i xs s h = (refl, h)
+  keeps (Ok (took (relaxed k t m x))) i xs s h =
       let g = misses (claims k t) (is_empty (claims k t)) i xs refl h in
       ((rewrites k t m x s.2.1).outside i g.0, g.1)
 
@@ -104,42 +106,42 @@ module _ (p : Pass) (sec : List ℕ) (r : Relocation) where
   lies_in w false xs f h = ((within w (length sec) r.offset f).1, h)
 
   lies : (a : Answer Accepted) (xs : List Part) → Sound p sec r a → Inside (length sec) xs → Inside (length sec) (part_of r.offset a ++ xs)
-  lies (refuses n) xs s h = h
-  lies (gives skipped) xs s h = h
-  lies (gives (took unrelaxed)) xs s h = h
-  lies (gives (took (relaxed k t m x))) xs s h = lies_in (claims k t) (is_empty (claims k t)) xs (relaxing_rewrites sec r k t m x s.2.1).0 h
+  lies (Err n) xs s h = h
+  lies (Ok skipped) xs s h = h
+  lies (Ok (took unrelaxed)) xs s h = h
+  lies (Ok (took (relaxed k t m x))) xs s h = lies_in (claims k t) (is_empty (claims k t)) xs (relaxing_rewrites sec r k t m x s.2.1).0 h
 
   sized : (a : Answer Accepted) → Sound p sec r a → length (bytes_after sec a) ≡ length sec
   unfolding bytes_after after_relaxing
-  sized (refuses n) s = refl
-  sized (gives skipped) s = refl
-  sized (gives (took unrelaxed)) s = refl
-  sized (gives (took (relaxed k t m x))) s = (rewrites k t m x s.2.1).size
+  sized (Err n) s = refl
+  sized (Ok skipped) s = refl
+  sized (Ok (took unrelaxed)) s = refl
+  sized (Ok (took (relaxed k t m x))) s = (rewrites k t m x s.2.1).size
 
 -- ---- a step that isn't idle, and one after the end
 
 works :
     (w : Walk) (r : Relocation) (c : Choice) (k : RelaxationKind) (t : ℕ) (m : Bool) (x : Rewritten)
-    → w.pass.ended ≡ false → choosing link_limit w.section r ≡ gives c → ltb r.offset w.pass.last ≡ false → is_pending w.pass ≡ false
-    → relaxing link_limit w.section r ≡ gives (relaxed k t m x) → overlaps w.pass (claims k t) r.offset ≡ false
-    → answer w r ≡ gives (took (relaxed k t m x))
+    → w.pass.ended ≡ false → choosing link_limit w.section r ≡ Ok c → ltb r.offset w.pass.last ≡ false → is_pending w.pass ≡ false
+    → relaxing link_limit w.section r ≡ Ok (relaxed k t m x) → overlaps w.pass (claims k t) r.offset ≡ false
+    → answer w r ≡ Ok (took (relaxed k t m x))
 unfolding stepping checked clearing
 works w r c k t m x e h l s f o = rw (h, l, f, o) (clear w.pass.ended (is_pending w.pass) e s) where
-  clear : (ended skip : Bool) → ended ≡ false → skip ≡ false → cond ended (refuses 21) (cond skip (passing r) (gives (took (relaxed k t m x)))) ≡ gives (took (relaxed k t m x))
+  clear : (ended skip : Bool) → ended ≡ false → skip ≡ false → cond ended (Err PassEnded) (cond skip (passing r) (Ok (took (relaxed k t m x)))) ≡ Ok (took (relaxed k t m x))
   clear false false e s = refl
   clear true skip e s = absurd (false≢true (sym e))
   clear false true e s = absurd (false≢true (sym s))
 
-ended_step : (w : Walk) (r : Relocation) → w.pass.ended ≡ true → (answer w r ≡ refuses 21) × (stepped w r ≡ w)
+ended_step : (w : Walk) (r : Relocation) → w.pass.ended ≡ true → (answer w r ≡ Err PassEnded) × (stepped w r ≡ w)
 unfolding stepping pass_left bytes_after
 ended_step w r h = (rw h, rw h)
 
-over : (w : Walk) (rs : List Relocation) → w.pass.ended ≡ true → (answers w rs ≡ map (λ _. refuses 21) rs) × (walk w rs ≡ w)
+over : (w : Walk) (rs : List Relocation) → w.pass.ended ≡ true → (answers w rs ≡ map (λ _. Err PassEnded) rs) × (walk w rs ≡ w)
 over w [] h = (refl, refl)
 over w (r ∷ rs) h =
     let e = ended_step w r h in
     let o = over w rs h in
-    (rw (e.1, e.0) (ap (λ (l : List (Answer Accepted)). refuses 21 ∷ l) o.0), rw e.1 o.1)
+    (rw (e.1, e.0) (ap (λ (l : List (Answer Accepted)). Err PassEnded ∷ l) o.0), rw e.1 o.1)
 
 -- ---- every walk
 
@@ -198,12 +200,12 @@ pairwise b (x ∷ xs) (suc i) (suc j) h l g = pairwise x.to xs i j h.2 (le_of_su
 
 meets :
     (w : Walk) (r : Relocation) (c : Choice)
-    → w.pass.ended ≡ false → choosing link_limit w.section r ≡ gives c → ltb r.offset w.pass.last ≡ false → is_pending w.pass ≡ true
-    → answer w r ≡ cond (eqb r.r_type 0) (gives (took unrelaxed)) (gives skipped)
+    → w.pass.ended ≡ false → choosing link_limit w.section r ≡ Ok c → ltb r.offset w.pass.last ≡ false → is_pending w.pass ≡ true
+    → answer w r ≡ cond (eqb r.r_type 0) (Ok (took unrelaxed)) (Ok skipped)
 unfolding stepping checked
 meets w r c e h l q = rw (e, h, l, q)
 
-leaves : (w : Walk) (r : Relocation) → answer w r ≡ gives (took unrelaxed) → stepped w r ≡ last_at r.offset w
+leaves : (w : Walk) (r : Relocation) → answer w r ≡ Ok (took unrelaxed) → stepped w r ≡ last_at r.offset w
 unfolding pass_left bytes_after after_relaxing
 leaves w r e = rw e
 
@@ -212,10 +214,10 @@ leaves w r e = rw e
 waiting : (w : Walk) (r : Relocation) (a : Answer Accepted) → Sound w.pass w.section r a → is_pending w.pass ≡ true → (is_type0 r || is_refused a) ≡ true
     → record { pass = pass_left w.pass r a; section = bytes_after w.section a } ≡ last_at (pass_left w.pass r a).last w
 unfolding pass_left bytes_after after_relaxing
-waiting w r (refuses n) s q b = refl
-waiting w r (gives (took unrelaxed)) s q b = refl
-waiting w r (gives skipped) s q b = absurd (false≢true (rw s.2.1 at b))
-waiting w r (gives (took (relaxed k t m x))) s q b = absurd (false≢true (sym s.2.0 ∙ q))
+waiting w r (Err n) s q b = refl
+waiting w r (Ok (took unrelaxed)) s q b = refl
+waiting w r (Ok skipped) s q b = absurd (false≢true (rw s.2.1 at b))
+waiting w r (Ok (took (relaxed k t m x))) s q b = absurd (false≢true (sym s.2.0 ∙ q))
 
 waits : (w : Walk) (rs : List Relocation) → is_pending w.pass ≡ true → between w rs ≡ true → walk w rs ≡ last_at (walk w rs).pass.last w
 waits w [] q b = refl
@@ -224,24 +226,24 @@ waits w (r ∷ rs) q b =
     let s = waiting w r (answer w r) (sound w r) q h.0 in
     waits (stepped w r) rs (ap (λ (v : Walk). is_pending v.pass) s ∙ q) h.1 ∙ ap (last_at (walk (stepped w r) rs).pass.last) s
 
-next : (w : Walk) (r : Relocation) (a : Accepted) → Sound w.pass w.section r (gives a) → is_pending w.pass ≡ true → is_type0 r ≡ false → a ≡ skipped
+next : (w : Walk) (r : Relocation) (a : Accepted) → Sound w.pass w.section r (Ok a) → is_pending w.pass ≡ true → is_type0 r ≡ false → a ≡ skipped
 next w r skipped s q z = refl
 next w r (took unrelaxed) s q z = absurd (false≢true (sym z ∙ s.2 q))
 next w r (took (relaxed k t m x)) s q z = absurd (false≢true (sym s.2.0 ∙ q))
 
 sets : (w : Walk) (r : Relocation) (a : Answer Accepted) → is_pending w.pass ≡ false → is_pending (pass_left w.pass r a) ≡ sets_skip a
 unfolding pass_left
-sets w r (refuses n) q = q
-sets w r (gives skipped) q = refl
-sets w r (gives (took unrelaxed)) q = q
-sets w r (gives (took (relaxed k t m x))) q = refl
+sets w r (Err n) q = q
+sets w r (Ok skipped) q = refl
+sets w r (Ok (took unrelaxed)) q = q
+sets w r (Ok (took (relaxed k t m x))) q = refl
 
 set : (w : Walk) (r : Relocation) (a : Answer Accepted) → Sound w.pass w.section r a → sets_skip a ≡ true → ((pass_left w.pass r a).ended ≡ false) × (is_pending (pass_left w.pass r a) ≡ true)
 unfolding pass_left
-set w r (gives (took (relaxed k t m x))) s q = (s.0, q)
-set w r (gives (took unrelaxed)) s q = absurd (false≢true q)
-set w r (gives skipped) s q = absurd (false≢true q)
-set w r (refuses n) s q = absurd (false≢true q)
+set w r (Ok (took (relaxed k t m x))) s q = (s.0, q)
+set w r (Ok (took unrelaxed)) s q = absurd (false≢true q)
+set w r (Ok skipped) s q = absurd (false≢true q)
+set w r (Err n) s q = absurd (false≢true q)
 
 module _ (w : Walk) (s : Relocation) (rs : List Relocation) (q : sets_skip (answer w s) ≡ true) (b : between (stepped w s) rs ≡ true) where
   here : Walk
@@ -257,14 +259,14 @@ module _ (w : Walk) (s : Relocation) (rs : List Relocation) (q : sets_skip (answ
   pending : is_pending here.pass ≡ true
   pending = ap (λ (v : Walk). is_pending v.pass) stays ∙ begun.1
 
-  pair : (ending here.pass ≡ refuses 24)
-      × ((r : Relocation) (a : Accepted) → is_type0 r ≡ false → answer here r ≡ gives a → (a ≡ skipped) × (is_pending (stepped here r).pass ≡ false))
+  pair : (ending here.pass ≡ Err SkipPending)
+      × ((r : Relocation) (a : Accepted) → is_type0 r ≡ false → answer here r ≡ Ok a → (a ≡ skipped) × (is_pending (stepped here r).pass ≡ false))
   unfolding pass_left
   pair = (
     rw (ap (λ (v : Walk). v.pass.ended) stays ∙ begun.0, pending),
     λ r a z g.
         let n = next here r a (subst (Sound here.pass here.section r) g (sound here r)) pending z in
-        (n, rw (g ∙ ap (λ (y : Accepted). gives y) n)),
+        (n, rw (g ∙ ap (λ (y : Accepted). Ok y) n)),
   )
 
 pub walks : Walks

@@ -1,6 +1,7 @@
 -- What a walk over a list of records means: the step, folded, and what holds of every walk from any pass over any section. Assumes nothing.
-use Rattle.std.specs.Prelude.{◌≡◌, ◌⊎◌, Bool, true, false, cond, ◌||◌, ◌&&◌, List, [], ◌∷◌, ◌++◌, map, ℕ, ◌<◌, ◌≤◌, eqb, ltb, length, get_or}
-use Rattle.rules.specs.Answer.{Answer, gives, refuses}
+use Rattle.std.specs.Prelude.{◌≡◌, ◌⊎◌, Bool, true, false, cond, ◌||◌, ◌&&◌, List, [], ◌∷◌, ◌++◌, map, ℕ, ◌<◌, ◌≤◌, eqb, ltb, length, get_or, Ok, Err}
+use Rattle.rules.specs.Answer.{Answer}
+use Rattle.refusal.specs.declared.Refusal.TheVariants.{PassEnded, SkipPending}
 use Rattle.x86_64_kind.specs.declared.RelaxationKind.{RelaxationKind}
 use Rattle.x86_64_kind.specs.declared.Window.{Window}
 use Rattle.x86_64_kind.specs.Kinds.{is_empty, begin, end, skips}
@@ -38,8 +39,8 @@ answers w (r ∷ rs) = answer w r ∷ answers (stepped w r) rs
 
 -- the offsets of the accepted records
 abbrev pub offset_of : ℕ → Answer Accepted → List ℕ
-offset_of off (gives a) = off ∷ []
-offset_of off (refuses n) = []
+offset_of off (Ok a) = off ∷ []
+offset_of off (Err n) = []
 
 abbrev pub offsets : Walk → List Relocation → List ℕ
 offsets w [] = []
@@ -54,10 +55,10 @@ abbrev pub part_from : Window → ℕ → List Part
 part_from w off = cond (is_empty w) [] (record { from = begin w off; to = end w off } ∷ [])
 
 abbrev pub part_of : ℕ → Answer Accepted → List Part
-part_of off (gives (took (relaxed k t m x))) = part_from (claims k t) off
-part_of off (gives (took unrelaxed)) = []
-part_of off (gives skipped) = []
-part_of off (refuses n) = []
+part_of off (Ok (took (relaxed k t m x))) = part_from (claims k t) off
+part_of off (Ok (took unrelaxed)) = []
+part_of off (Ok skipped) = []
+part_of off (Err n) = []
 
 abbrev pub parts : Walk → List Relocation → List Part
 parts w [] = []
@@ -84,15 +85,15 @@ Outside i [] = Unit {0}
 Outside i (x ∷ xs) = ((i < x.from) ⊎ (x.to ≤ i)) × Outside i xs
 
 abbrev pub is_refused : Answer Accepted → Bool
-is_refused (refuses n) = true
-is_refused (gives a) = false
+is_refused (Err n) = true
+is_refused (Ok a) = false
 
 -- a record that set a skip: it was relaxed by a kind that says so
 abbrev pub sets_skip : Answer Accepted → Bool
-sets_skip (gives (took (relaxed k t m x))) = skips k
-sets_skip (gives (took unrelaxed)) = false
-sets_skip (gives skipped) = false
-sets_skip (refuses n) = false
+sets_skip (Ok (took (relaxed k t m x))) = skips k
+sets_skip (Ok (took unrelaxed)) = false
+sets_skip (Ok skipped) = false
+sets_skip (Err n) = false
 
 -- each is "a type 0 record", or is refused where it stands
 abbrev pub between : Walk → List Relocation → Bool
@@ -115,18 +116,18 @@ pub record Walks : Type 0 where
   -- a record that relaxing one record relaxes is relaxed, wherever it stands, unless 21, 22, 23 or the skip says otherwise
   pub works :
       (w : Walk) (r : Relocation) (c : Choice) (k : RelaxationKind) (t : ℕ) (m : Bool) (x : Rewritten)
-      → w.pass.ended ≡ false → choosing link_limit w.section r ≡ gives c → ltb r.offset w.pass.last ≡ false → is_pending w.pass ≡ false
-      → relaxing link_limit w.section r ≡ gives (relaxed k t m x) → overlaps w.pass (claims k t) r.offset ≡ false
-      → answer w r ≡ gives (took (relaxed k t m x))
+      → w.pass.ended ≡ false → choosing link_limit w.section r ≡ Ok c → ltb r.offset w.pass.last ≡ false → is_pending w.pass ≡ false
+      → relaxing link_limit w.section r ≡ Ok (relaxed k t m x) → overlaps w.pass (claims k t) r.offset ≡ false
+      → answer w r ≡ Ok (took (relaxed k t m x))
   -- a pass that has ended answers 21 to every record, and nothing changes
-  pub over : (w : Walk) (rs : List Relocation) → w.pass.ended ≡ true → (answers w rs ≡ map (λ _. refuses 21) rs) × (walk w rs ≡ w)
+  pub over : (w : Walk) (rs : List Relocation) → w.pass.ended ≡ true → (answers w rs ≡ map (λ _. Err PassEnded) rs) × (walk w rs ≡ w)
   -- a record met while a skip is pending, unless 21, 1, 2, 3, 4 or 22 refuse it: none if its own type is 0, and skipped otherwise
   pub meets :
       (w : Walk) (r : Relocation) (c : Choice)
-      → w.pass.ended ≡ false → choosing link_limit w.section r ≡ gives c → ltb r.offset w.pass.last ≡ false → is_pending w.pass ≡ true
-      → answer w r ≡ cond (eqb r.r_type 0) (gives (took unrelaxed)) (gives skipped)
+      → w.pass.ended ≡ false → choosing link_limit w.section r ≡ Ok c → ltb r.offset w.pass.last ≡ false → is_pending w.pass ≡ true
+      → answer w r ≡ cond (eqb r.r_type 0) (Ok (took unrelaxed)) (Ok skipped)
   -- a record that is none, whether a skip is pending or not, sets the last offset and nothing else
-  pub leaves : (w : Walk) (r : Relocation) → answer w r ≡ gives (took unrelaxed) → stepped w r ≡ last_at r.offset w
+  pub leaves : (w : Walk) (r : Relocation) → answer w r ≡ Ok (took unrelaxed) → stepped w r ≡ last_at r.offset w
   -- "a type 0 record met while a skip is pending .. leaves the skip pending": any number of them, refused records among them, move the
   -- last offset and nothing else
   pub waits : (w : Walk) (rs : List Relocation) → is_pending w.pass ≡ true → between w rs ≡ true → walk w rs ≡ last_at (walk w rs).pass.last w
@@ -135,10 +136,10 @@ pub record Walks : Type 0 where
   pub pair :
       (w : Walk) (s : Relocation) (rs : List Relocation) → sets_skip (answer w s) ≡ true → between (stepped w s) rs ≡ true
       → let here = walk (stepped w s) rs in
-      (ending here.pass ≡ refuses 24)
-      × ((r : Relocation) (a : Accepted) → is_type0 r ≡ false → answer here r ≡ gives a → (a ≡ skipped) × (is_pending (stepped here r).pass ≡ false))
+      (ending here.pass ≡ Err SkipPending)
+      × ((r : Relocation) (a : Accepted) → is_type0 r ≡ false → answer here r ≡ Ok a → (a ≡ skipped) × (is_pending (stepped here r).pass ≡ false))
   -- no other record is ever skipped: only while a skip is pending, which no other record sets
-  pub only : (w : Walk) (r : Relocation) → answer w r ≡ gives skipped → (is_pending w.pass ≡ true) × (is_type0 r ≡ false)
+  pub only : (w : Walk) (r : Relocation) → answer w r ≡ Ok skipped → (is_pending w.pass ≡ true) × (is_type0 r ≡ false)
   pub sets : (w : Walk) (r : Relocation) → is_pending w.pass ≡ false → is_pending (stepped w r).pass ≡ sets_skip (answer w r)
   -- offsets never fall
   pub rising : (w : Walk) (rs : List Relocation) → Rising w.pass.last (offsets w rs)

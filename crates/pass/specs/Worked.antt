@@ -1,6 +1,8 @@
 -- A worked walk, in which a step ends in every way that a pass adds, and the endings. Assumes nothing.
-use Rattle.std.specs.Prelude.{◌≡◌, Bool, true, false, List, [], ◌∷◌, ◌++◌, map, ℕ, negsuc}
-use Rattle.rules.specs.Answer.{Answer, gives, refuses}
+use Rattle.std.specs.Prelude.{◌≡◌, Bool, true, false, List, [], ◌∷◌, ◌++◌, map, ℕ, negsuc, Ok, Err}
+use Rattle.rules.specs.Answer.{Answer}
+use Rattle.refusal.specs.declared.Refusal.{Refusal}
+use Rattle.refusal.specs.declared.Refusal.TheVariants.{OffsetAboveLength, FlagNumber, OutputKindNumber, WindowNotInside, PassEnded, OffsetBelowLast, WindowOverlap, SkipPending}
 use Rattle.x86_64_kind.specs.Kinds.{shape_of}
 use Rattle.rules.specs.declared.Relocation.{Relocation}
 use Rattle.rules.specs.Record.{relocation}
@@ -14,13 +16,13 @@ pub data Told : Type 0 where
   relaxes : ℕ → Told
   leaves : Told
   passes_by : Told
-  refused : ℕ → Told
+  refused : Refusal → Told
 
 abbrev pub told : Answer Accepted → Told
-told (gives (took (relaxed k t m x))) = relaxes (shape_of k).number
-told (gives (took unrelaxed)) = leaves
-told (gives skipped) = passes_by
-told (refuses n) = refused n
+told (Ok (took (relaxed k t m x))) = relaxes (shape_of k).number
+told (Ok (took unrelaxed)) = leaves
+told (Ok skipped) = passes_by
+told (Err n) = refused n
 
 -- a general-dynamic sequence with its call, a load through the GOT, and zeros
 abbrev section : List ℕ
@@ -65,8 +67,8 @@ pass_of l w s e = record { last = l; window = w; skip = s; ended = e }
 pub record WalkWorked : Type 0 where
   pub told_all :
       map told (answers start records)
-      ≡ relaxes 10 ∷ leaves ∷ refused 22 ∷ leaves ∷ passes_by ∷ relaxes 2 ∷ relaxes 18 ∷ refused 23 ∷ relaxes 9 ∷ leaves ∷ relaxes 18
-      ∷ refused 6 ∷ refused 2 ∷ []
+      ≡ relaxes 10 ∷ leaves ∷ refused OffsetBelowLast ∷ leaves ∷ passes_by ∷ relaxes 2 ∷ relaxes 18 ∷ refused WindowOverlap ∷ relaxes 9 ∷ leaves ∷ relaxes 18
+      ∷ refused WindowNotInside ∷ refused OffsetAboveLength ∷ []
   pub ends_at : (walk start records).pass ≡ pass_of 21 23 false false
   pub holds :
       (walk start records).section
@@ -82,11 +84,11 @@ pub record WalkWorked : Type 0 where
   pub waiting : (walk start (at 19 4 ∷ inner)).pass ≡ pass_of 12 12 true false
   pub met :
       map (λ r. told (answer (walk start (at 19 4 ∷ inner)) r)) (at 0 12 ∷ at 4 12 ∷ for 0 0 4 12 ∷ at 35 12 ∷ at 0 11 ∷ at 0 24 ∷ for 16 0 0 12 ∷ for 1 6 0 12 ∷ [])
-      ≡ leaves ∷ passes_by ∷ passes_by ∷ passes_by ∷ refused 22 ∷ refused 2 ∷ refused 3 ∷ refused 4 ∷ []
+      ≡ leaves ∷ passes_by ∷ passes_by ∷ passes_by ∷ refused OffsetBelowLast ∷ refused OffsetAboveLength ∷ refused FlagNumber ∷ refused OutputKindNumber ∷ []
   -- the ending there: 24, and nothing changes; after the last record it is granted; then 21, of both
-  pub pending : ending (pass_of 12 12 true false) ≡ refuses 24
-  pub pending_kept : ended_pass (pass_of 12 12 true false) (refuses 24) ≡ pass_of 12 12 true false
-  pub granted : ending (pass_of 21 23 false false) ≡ gives tt
-  pub ended : ended_pass (pass_of 21 23 false false) (gives tt) ≡ pass_of 21 23 false true
-  pub over : ending (pass_of 21 23 false true) ≡ refuses 21
-  pub over_step : map told (answers (record { pass = pass_of 21 23 false true; section = section }) (at 1 21 ∷ [])) ≡ refused 21 ∷ []
+  pub pending : ending (pass_of 12 12 true false) ≡ Err SkipPending
+  pub pending_kept : ended_pass (pass_of 12 12 true false) (Err SkipPending) ≡ pass_of 12 12 true false
+  pub granted : ending (pass_of 21 23 false false) ≡ Ok tt
+  pub ended : ended_pass (pass_of 21 23 false false) (Ok tt) ≡ pass_of 21 23 false true
+  pub over : ending (pass_of 21 23 false true) ≡ Err PassEnded
+  pub over_step : map told (answers (record { pass = pass_of 21 23 false true; section = section }) (at 1 21 ∷ [])) ≡ refused PassEnded ∷ []

@@ -4,20 +4,20 @@
 
 ghost use Rattle.std.specs.Prelude.{◌≡◌};
 ghost use Rattle.rules.specs.Meaning.{SameMeaning};
-ghost use Rattle.pass.specs.Pass.{fresh_pass};
+ghost use Rattle.pass.specs.Pass.{fresh_pass, stepping};
 ghost use Rattle.pass.specs.Walk.{Walks};
 ghost use Rattle.pass.specs.Worked.{WalkWorked};
-ghost use Rattle.pass.specs.Answers.{taken, step, ended, placed, in_order, verdict_of, took_step, skipped_step, refused_step};
+ghost use Rattle.pass.specs.Answers.{taken, step, ended, placed, accepting};
 
-use elf_x86_64_relaxation::{Choice, Relaxation};
+use elf_x86_64_relaxation::Relaxation;
+use refusal::Refusal;
 use relax::Relaxed;
 use rules::Relocation;
-use x86_64_apply::Moved;
 
 // The last offset, the end of the last window that isn't empty, whether a skip is pending, and
 // whether the pass has ended.
 #[repr(C)]
-#[derive(Clone, Copy)]
+#[derive(Clone, Copy, Debug, PartialEq, Eq, Hash)]
 pub struct Pass {
     pub last: u64,
     pub window: u64,
@@ -25,39 +25,24 @@ pub struct Pass {
     pub ended: bool,
 }
 
-#[derive(Clone, Copy)]
+// An accepted record: taken, with what relaxing gave if anything, or skipped.
+#[derive(Clone, Copy, Debug, PartialEq, Eq, Hash)]
 pub enum Step {
-    Nothing,
-    Done(Relaxation, Moved),
+    Took(Option<Relaxed>),
     Skipped,
-    Refused(u8),
 }
 
-#[derive(Clone, Copy)]
+// Kept: a pass beside each answer, here and in `Ended`, since a refusal hands the pass back unchanged.
+#[derive(Clone, Copy, Debug, PartialEq, Eq, Hash)]
 pub struct Stepped {
     pub pass: Pass,
-    pub step: Step,
+    pub step: Result<Step, Refusal>,
 }
 
-#[derive(Clone, Copy)]
-pub enum End {
-    Granted,
-    Refused(u8),
-}
-
-#[derive(Clone, Copy)]
+#[derive(Clone, Copy, Debug, PartialEq, Eq, Hash)]
 pub struct Ended {
     pub pass: Pass,
-    pub end: End,
-}
-
-// What the pass says of a record whose choice is known. `Relax` holds the window's end afterwards, and the choice.
-#[derive(Clone, Copy)]
-enum Verdict {
-    Refuse(u8),
-    Skip,
-    Leave,
-    Relax(u64, Relaxation),
+    pub end: Result<(), Refusal>,
 }
 
 impl Pass {
@@ -83,18 +68,15 @@ impl Pass {
         ensures section_bytes_after { taken result section_bytes.new ≡ step self section_bytes.old rel }
         ensures same_meaning { SameMeaning section_bytes.old }
     {
-        if self.ended {
-            return self.refused(21);
-        }
-        let choice = elf_x86_64_new_relaxation::new_relaxation(section_bytes, rel);
-        match self.verdict(choice, section_bytes.len() as u64, rel) {
-            Verdict::Refuse(n) => self.refused(n),
-            Verdict::Skip => self.skipped(rel),
-            Verdict::Leave => self.took(rel, 0, Relaxed::Nothing),
-            Verdict::Relax(window, relaxation) => {
-                let relaxed = relax::finish(section_bytes, rel, relaxation);
-                self.took(rel, window, relaxed)
-            }
+        match self.accept(section_bytes, rel) {
+            Ok((pass, step)) => Stepped {
+                pass,
+                step: Ok(step),
+            },
+            Err(refusal) => Stepped {
+                pass: self,
+                step: Err(refusal),
+            },
         }
     }
 
@@ -105,119 +87,69 @@ impl Pass {
         if self.ended {
             return Ended {
                 pass: self,
-                end: End::Refused(21),
+                end: Err(Refusal::PassEnded),
             };
         }
         if self.skip {
             return Ended {
                 pass: self,
-                end: End::Refused(24),
+                end: Err(Refusal::SkipPending),
             };
         }
-        let mut pass = self;
-        pass.ended = true;
         Ended {
-            pass: pass,
-            end: End::Granted,
+            pass: Pass {
+                ended: true,
+                ..self
+            },
+            end: Ok(()),
         }
     }
 
-    // 1, 2, 3, 4 as choosing has them, 22, the skip, then 23 where the window lies inside.
-    fn verdict(self, choice: Choice, len: u64, rel: Relocation) -> Verdict
-        ensures { result ≡ verdict_of self choice len rel }
-    {
-        match choice {
-            Choice::Refused(n) => Verdict::Refuse(n),
-            Choice::Nothing => self.in_order(rel, Verdict::Leave),
-            Choice::Chosen(relaxation) => {
-                let verdict = self.place(relaxation, len, rel.offset);
-                self.in_order(rel, verdict)
-            }
-        }
-    }
-
+    // 21, then 1, 2, 3, 4 as choosing has them, 22, the skip, then 23 where the window lies inside, or 6.
     // A type 0 record leaves a pending skip as it is.
-    fn in_order(self, rel: Relocation, verdict: Verdict) -> Verdict
-        ensures { result ≡ in_order self rel verdict }
+    #[tactic(auto, using(crate::proofs::Steps::by_ended, crate::proofs::Steps::by_refusal, crate::proofs::Steps::by_offset, crate::proofs::Steps::by_type0, crate::proofs::Steps::by_skip, crate::proofs::Steps::by_none))]
+    fn accept(self, section_bytes: &mut [u8], rel: Relocation) -> Result<(Pass, Step), Refusal>
+        ensures { (result, section_bytes.new) ≡ accepting self section_bytes.old rel (stepping self section_bytes.old rel) }
     {
-        if rel.offset < self.last {
-            return Verdict::Refuse(22);
+        if self.ended {
+            return Err(Refusal::PassEnded);
         }
+        let choice = elf_x86_64_new_relaxation::new_relaxation(section_bytes, rel)?;
+        if rel.offset < self.last {
+            return Err(Refusal::OffsetBelowLast);
+        }
+        let mut pass = Pass {
+            last: rel.offset,
+            ..self
+        };
         if self.skip {
             if rel.r_type == object::R_X86_64_NONE {
-                return Verdict::Leave;
+                return Ok((pass, Step::Took(None)));
             }
-            return Verdict::Skip;
+            pass.skip = false;
+            return Ok((pass, Step::Skipped));
         }
-        verdict
+        let Some(relaxation) = choice else {
+            return Ok((pass, Step::Took(None)));
+        };
+        pass.window = self.place(relaxation, section_bytes.len() as u64, rel.offset)?;
+        pass.skip = relaxation.next_modifier().is_skip();
+        let relaxed = relax::finish(section_bytes, rel, relaxation)?;
+        Ok((pass, Step::Took(Some(relaxed))))
     }
 
-    fn place(self, relaxation: Relaxation, len: u64, offset: u64) -> Verdict
+    // 23, or the window's end once the record is relaxed. A window that isn't inside is left to relaxing.
+    fn place(self, relaxation: Relaxation, len: u64, offset: u64) -> Result<u64, Refusal>
         ensures { result ≡ placed self relaxation len offset }
     {
         let window = relaxation.claim();
-        let back = window.back;
-        let size = window.size;
-        let last_end = self.window;
-        let inside = window.is_inside(len, offset);
-        if inside {
-            if size == 0 {
-                return Verdict::Relax(last_end, relaxation);
-            }
-            let begin = offset - back;
-            if begin < last_end {
-                return Verdict::Refuse(23);
-            }
-            return Verdict::Relax(begin + size, relaxation);
+        if window.size == 0 || !window.is_inside(len, offset) {
+            return Ok(self.window);
         }
-        Verdict::Relax(last_end, relaxation)
-    }
-
-    // What relaxing answered; `window` is the window's end where a record was relaxed.
-    fn took(self, rel: Relocation, window: u64, relaxed: Relaxed) -> Stepped
-        ensures { result ≡ took_step self rel window relaxed }
-    {
-        match relaxed {
-            Relaxed::Nothing => {
-                let mut pass = self;
-                pass.last = rel.offset;
-                Stepped {
-                    pass: pass,
-                    step: Step::Nothing,
-                }
-            }
-            Relaxed::Done(relaxation, moved) => {
-                let mut pass = self;
-                pass.last = rel.offset;
-                pass.window = window;
-                pass.skip = relaxation.next_modifier().is_skip();
-                Stepped {
-                    pass: pass,
-                    step: Step::Done(relaxation, moved),
-                }
-            }
-            Relaxed::Refused(n) => self.refused(n),
+        let begin = offset - window.back;
+        if begin < self.window {
+            return Err(Refusal::WindowOverlap);
         }
-    }
-
-    fn skipped(self, rel: Relocation) -> Stepped
-        ensures { result ≡ skipped_step self rel }
-    {
-        let mut pass = self;
-        pass.last = rel.offset;
-        pass.skip = false;
-        Stepped {
-            pass: pass,
-            step: Step::Skipped,
-        }
-    }
-
-    fn refused(self, number: u8) -> Stepped
-        ensures { result ≡ refused_step self number }
-    {
-        Stepped {
-            pass: self,
-            step: Step::Refused(number),
-        }
+        Ok(begin + window.size)
     }
 }

@@ -1,20 +1,21 @@
 -- What a plain record's numbers settle is what relaxing gives: which flag numbers are chosen is computed over all of them, and the
 -- types below 9 but 2 and 4 have no rule.
 -- Assumes nothing.
-use mathlib.Core.Path.{◌≡◌, refl, sym, ap, ◌∙◌}
-use mathlib.Core.Bool.{Bool, true, false, not, cond, ◌&&◌, ◌||◌, false≢true}
+use Rattle.std.specs.Prelude.{Some, Ok}
+use Rattle.std.specs.Bool.{then_some}
+use Rattle.std.proofs.lemmas.Bool.Decides.{nat_tests}
+use mathlib.Core.Path.{◌≡◌, refl, ap}
+use mathlib.Core.Bool.{Bool, true, false, not, cond, ◌&&◌, ◌||◌}
 use mathlib.Core.List.{List}
 use Prim.Native.Nat.{ℕ, ◌≤◌, ◌<◌, ◌+◌, ◌-◌}
 use native.Mathlib.Omega.{arith}
 use native.Mathlib.Nat.{sub-zero, add-zero}
-use borrow.Author.Tests.{ne_eqb, eqb-true, leb-true, ltb-true, lt-ltb, le-leb, le-ltb}
+use borrow.Author.Tests.{eqb-true, le-leb, le-ltb}
 use lib.Dec.{eqb, leb, ltb}
 use lib.IntN.{pos}
 use lib.ListN.{length}
-use Rattle.laws.proofs.Bools.{both}
 use Rattle.laws.proofs.Keys.{at_down}
 use Rattle.x86_64_kind.specs.declared.RelaxationKind.TheVariants.{NoOp}
-use Rattle.rules.specs.Answer.{gives}
 use Rattle.rules.specs.Range.{bit}
 use Rattle.rules.specs.declared.Relocation.{Relocation}
 use Rattle.rules.specs.Record.{link_limit, ifunc, is_n, is_s}
@@ -25,9 +26,7 @@ use Rattle.elf_x86_64_relaxation.specs.Choices.{choice_of}
 use Rattle.relax.specs.Answers.{relaxed_of}
 use Rattle.answers.specs.declared.RelaxedAnswer.{RelaxedAnswer}
 use Rattle.answers.specs.Layout.{choice_layout, relaxed_layout}
-use Rattle.plain.specs.declared.Plain.{Plain}
-use Rattle.plain.specs.declared.Plain.TheVariants.{Settled, Other}
-use Rattle.plain.specs.Plain.{is_plain, plain_of, chosen_by, settled_of}
+use Rattle.plain.specs.Plain.{is_plain, chosen_by, settled_of}
 
 -- the mask's bit of a flag number, by 01's letters: computed over the sixteen
 abbrev set : ℕ → ℕ → Bool
@@ -45,7 +44,7 @@ nones = at_down (set 0) (λ f. false) 16 refl
 -- ---- what is chosen
 
 differs : (t k : ℕ) → t < 9 → ltb k 9 ≡ false → eqb t k ≡ false
-differs t k h g = ne_eqb t k (λ (e : t ≡ k). false≢true (sym g ∙ (ap (λ (x : ℕ). ltb x 9) (sym e) ∙ lt-ltb t 9 h)))
+differs t k h g = grind (arith, nat_tests)
 
 module _ (sec : List ℕ) (r : Relocation) (low : r.r_type < 9) (few : r.flags < 16) where
   abbrev t : ℕ
@@ -107,26 +106,17 @@ module _ (sec : List ℕ) (r : Relocation) (low : r.r_type < 9) (few : r.flags <
 
 module _ (sec : List ℕ) (r : Relocation) (p : is_plain sec r ≡ true) where
   facts : (length sec ≤ link_limit.most) × (r.offset ≤ length sec) × (r.r_type < 9) × (r.flags ≤ 15) × (r.output_kind ≤ 5)
-  facts =
-      let a = leb (length sec) link_limit.most in
-      let b = leb r.offset (length sec) in
-      let d = ltb r.r_type 9 in
-      let e = leb r.flags 15 in
-      let h4 = both (a && b && d && e) (leb r.output_kind 5) p in
-      let h3 = both (a && b && d) e h4.0 in
-      let h2 = both (a && b) d h3.0 in
-      let h1 = both a b h2.0 in
-      (leb-true _ _ h1.0, leb-true _ _ h1.1, ltb-true _ _ h2.1, leb-true _ _ h3.1, leb-true _ _ h4.1)
+  facts = grind (arith, nat_tests)
 
   abbrev pub choice : Bool → Bool → Bool → Choice
   choice c two s = cond c (chosen NoOp (cond two 4 2) (two || s)) none
 
-  pub admitted : choosing link_limit sec r ≡ gives (choice (chosen_by r) (eqb r.r_type 2) (is_s r.output_kind))
+  pub admitted : choosing link_limit sec r ≡ Ok (choice (chosen_by r) (eqb r.r_type 2) (is_s r.output_kind))
   unfolding choosing
   admitted =
       let f = facts.3 in
       rw (le-ltb 268435456 _ facts.0, le-ltb _ _ facts.1, le-ltb 15 r.flags f, le-ltb 5 r.output_kind facts.4)
-      (ap gives (chooses sec r facts.2 (omega (arith, f))))
+      (ap Ok (chooses sec r facts.2 (omega (arith, f))))
 
   abbrev answer : Bool → Bool → Bool → RelaxedAnswer
   answer c two s =
@@ -136,7 +126,7 @@ module _ (sec : List ℕ) (r : Relocation) (p : is_plain sec r ≡ true) where
   abbrev pub outcome : Bool → Bool → Bool → Relaxed
   outcome c two s = cond c (relaxed NoOp (cond two 4 2) (two || s) (record { bytes = sec; offset = r.offset; addend = r.addend })) unrelaxed
 
-  pub relaxes : relaxing link_limit sec r ≡ gives (outcome (chosen_by r) (eqb r.r_type 2) (is_s r.output_kind))
+  pub relaxes : relaxing link_limit sec r ≡ Ok (outcome (chosen_by r) (eqb r.r_type 2) (is_s r.output_kind))
   unfolding relaxing relax_chosen claims
   relaxes = rw admitted (go (chosen_by r) (eqb r.r_type 2) (is_s r.output_kind))
     where
@@ -146,7 +136,7 @@ module _ (sec : List ℕ) (r : Relocation) (p : is_plain sec r ≡ true) where
       high_end : leb (r.offset - 0 + 0) (length sec) ≡ true
       high_end = le-leb (r.offset - 0 + 0) (length sec) (omega (arith, facts.1))
 
-      go : (c two s : Bool) → relax_chosen sec r (gives (choice c two s)) ≡ gives (outcome c two s)
+      go : (c two s : Bool) → relax_chosen sec r (Ok (choice c two s)) ≡ Ok (outcome c two s)
       go true two s = rw (low_end, high_end, sub-zero r.offset, add-zero r.offset)
       go false two s = refl
 
@@ -155,7 +145,7 @@ module _ (sec : List ℕ) (r : Relocation) (p : is_plain sec r ≡ true) where
   unfolding after_relaxing needs_fallback lookup earlier_types
   settles = rw (relaxes, admitted) (at (chosen_by r) (eqb r.r_type 2) (is_s r.output_kind))
     where
-      at : (c two s : Bool) → (relaxed_layout (relaxed_of (gives (outcome c two s))) ≡ answer c two s) × (after_relaxing sec (gives (outcome c two s)) ≡ sec) × (choice_layout (choice_of (gives (choice c two s))) ≡ (answer c two s).choice)
+      at : (c two s : Bool) → (relaxed_layout (relaxed_of (Ok (outcome c two s))) ≡ answer c two s) × (after_relaxing sec (Ok (outcome c two s)) ≡ sec) × (choice_layout (choice_of (Ok (choice c two s))) ≡ (answer c two s).choice)
       at true true s = (refl, refl, refl)
       at true false true = (refl, refl, refl)
       at true false false = (refl, refl, refl)
@@ -163,37 +153,20 @@ module _ (sec : List ℕ) (r : Relocation) (p : is_plain sec r ≡ true) where
 
 -- ---- what a caller learns of an answer that is settled
 
-abbrev un : RelaxedAnswer → Plain → RelaxedAnswer
-un x (Settled a) = a
-un x Other = x
-
-abbrev is_settled : Plain → Bool
-is_settled (Settled a) = true
-is_settled Other = false
-
-pub settled : (b : Bool) (x a : RelaxedAnswer) → Settled a ≡ plain_of b x → (b ≡ true) × (a ≡ x)
-settled true x a e = (refl, ap (un x) e)
-settled false x a e = absurd (false≢true (sym (ap is_settled e)))
-
-module _ (sec : List ℕ) (r : Relocation) (a : RelaxedAnswer) (e : Settled a ≡ plain_of (is_plain sec r) (relaxed_layout (relaxed_of (relaxing link_limit sec r)))) where
-  is_plain_at : (is_plain sec r ≡ true) × (a ≡ relaxed_layout (relaxed_of (relaxing link_limit sec r)))
-  is_plain_at = settled (is_plain sec r) _ a e
-
-  pub answers : a ≡ relaxed_layout (relaxed_of (relaxing link_limit sec r))
-  answers = is_plain_at.1
-
-  pub keeps : sec ≡ after_relaxing sec (relaxing link_limit sec r)
-  keeps = sym (settles sec r is_plain_at.0).1
-
-  pub chosen_too : a.choice ≡ choice_layout (choice_of (choosing link_limit sec r))
-  chosen_too =
-      let s = settles sec r is_plain_at.0 in
-      ap (λ (x : RelaxedAnswer). x.choice) (answers ∙ s.0) ∙ sym s.2
+pub settled : (b : Bool) (x a : RelaxedAnswer) → Some a ≡ then_some b x → (b ≡ true) × (a ≡ x)
+settled true x a e = (refl, cc)
+settled false x a e = cc
 
 -- a record that passes every test is plain, and its numbers settle it
-pub settled_by : (sec : List ℕ) (r : Relocation)
-    → length sec ≤ 268435456 → r.offset ≤ length sec → r.r_type < 9 → r.flags ≤ 15 → r.output_kind ≤ 5
-    → plain_of (is_plain sec r) (relaxed_layout (relaxed_of (relaxing link_limit sec r))) ≡ Settled (settled_of r)
-settled_by sec r short inside low few known =
-    let plain : is_plain sec r ≡ true = rw (le-leb _ _ short, le-leb _ _ inside, lt-ltb _ _ low, le-leb _ _ few, le-leb _ _ known) in
-    rw (plain, (settles sec r plain).0)
+module _ (sec : List ℕ) (r : Relocation) (short : length sec ≤ 268435456) (inside : r.offset ≤ length sec) (low : r.r_type < 9) (few : r.flags ≤ 15) (known : r.output_kind ≤ 5) where
+  plain : is_plain sec r ≡ true
+  plain = grind (arith, nat_tests)
+
+  pub settled_by : then_some (is_plain sec r) (relaxed_layout (relaxed_of (relaxing link_limit sec r))) ≡ Some (settled_of r)
+  settled_by = rw (plain, (settles sec r plain).0)
+
+  pub kept_by : after_relaxing sec (relaxing link_limit sec r) ≡ sec
+  kept_by = (settles sec r plain).1
+
+  pub choice_by : choice_layout (choice_of (choosing link_limit sec r)) ≡ (settled_of r).choice
+  choice_by = (settles sec r plain).2

@@ -4,16 +4,11 @@ use Rattle.rules.specs.declared.Relocation.{Relocation}
 use Rattle.rules.specs.Record.{link_limit, is_s}
 use Rattle.rules.specs.Range.{bit}
 use Rattle.answers.specs.declared.RelaxedAnswer.{RelaxedAnswer}
-use Rattle.plain.specs.declared.Plain.{Plain}
-use Rattle.plain.specs.declared.Plain.TheVariants.{Settled, Other}
 
 -- refused by none of 1 to 4, and of a type below 9
 abbrev pub is_plain : List ℕ → Relocation → Bool
 is_plain sec r =
     leb (length sec) link_limit.most && leb r.offset (length sec) && ltb r.r_type 9 && leb r.flags 15 && leb r.output_kind 5
-
-abbrev pub plain_of : Bool → RelaxedAnswer → Plain
-plain_of b a = cond b (Settled a) Other
 
 -- ---- the code's numbers
 

@@ -20,287 +20,231 @@
 #![tactic(auto)]
 
 use elf::{AllowedRange, ByteWidth, DynamicRelocationKind, Sign};
-use elf_fill::Filling;
-use elf_x86_64_plt::PltEntry;
-use hex_lines::{byte, more, print_count, u32_at, u64_at};
-use output_kind::{OutputKind, OutputKindFound};
+use hex_lines::{Count, Line};
+use output_kind::OutputKind;
+use refusal::Refusal;
 use rules::Field;
-use value_flags::{ValueFlags, ValueFlagsFound};
-use x86_64_types::RelocationFound;
+use value_flags::ValueFlags;
+use x86_64_types::relocation_from_raw;
 
-const STDIN_FILENO: i32 = 0;
-
-fn flag(b: bool) -> u8 {
-    if b { 1 } else { 0 }
+// The function that a record is of, in the order of their numbers.
+#[derive(Clone, Copy)]
+enum Function {
+    OutputKind,
+    ValueFlags,
+    RelocationFromRaw,
+    X86RType,
+    WritePltEntry,
+    FillSectionPadding,
+    Contains,
+    FromByteSize,
+    WriteToBuffer,
+    Fill,
 }
 
-fn i64_at(line: &[u8], at: usize) -> i64 {
-    elf::as_i64(u64_at(line, at))
-}
+impl TryFrom<u8> for Function {
+    type Error = ();
 
-fn output_kind_agrees(line: &[u8]) -> bool {
-    match OutputKind::from_number(byte(line, 1)) {
-        OutputKindFound::Is(kind) => {
-            (flag(kind.is_executable()) == byte(line, 2))
-                & (flag(kind.is_static_executable()) == byte(line, 3))
-                & (flag(kind.is_position_independent()) == byte(line, 4))
-                & (flag(kind.has_fixed_load_address()) == byte(line, 5))
+    fn try_from(number: u8) -> Result<Function, ()> {
+        match number {
+            1 => Ok(Function::OutputKind),
+            2 => Ok(Function::ValueFlags),
+            3 => Ok(Function::RelocationFromRaw),
+            4 => Ok(Function::X86RType),
+            5 => Ok(Function::WritePltEntry),
+            6 => Ok(Function::FillSectionPadding),
+            7 => Ok(Function::Contains),
+            8 => Ok(Function::FromByteSize),
+            9 => Ok(Function::WriteToBuffer),
+            10 => Ok(Function::Fill),
+            _ => Err(()),
         }
-        OutputKindFound::Refused(_) => false,
     }
 }
 
-fn value_flags_agree(line: &[u8]) -> bool {
-    match ValueFlags::from_number(byte(line, 1)) {
-        ValueFlagsFound::Is(flags) => {
-            (flag(flags.is_dynamic()) == byte(line, 2))
-                & (flag(flags.is_ifunc()) == byte(line, 3))
-                & (flag(flags.has_link_time_address()) == byte(line, 4))
-                & (flag(flags.is_absolute()) == byte(line, 5))
-                & (flag(flags.is_interposable()) == byte(line, 6))
+impl Function {
+    // Whether the port answers as a record says.
+    fn agrees(self, line: Line) -> bool {
+        match self {
+            Function::OutputKind => output_kind_agrees(line),
+            Function::ValueFlags => value_flags_agree(line),
+            Function::RelocationFromRaw => relocation_agrees(line),
+            Function::X86RType => dynamic_type_agrees(line),
+            Function::WritePltEntry => plt_agrees(line),
+            Function::FillSectionPadding => padding_agrees(line),
+            Function::Contains => contains_agrees(line),
+            Function::FromByteSize => byte_size_agrees(line),
+            Function::WriteToBuffer => write_agrees(line),
+            Function::Fill => fill_agrees(line),
         }
-        ValueFlagsFound::Refused(_) => false,
     }
+}
+
+fn output_kind_agrees(line: Line) -> bool {
+    OutputKind::try_from(line.byte(1)).is_ok_and(|kind| {
+        let answers = [
+            kind.is_executable(),
+            kind.is_static_executable(),
+            kind.is_position_independent(),
+            kind.has_fixed_load_address(),
+        ];
+        answers.map(u8::from) == line.bytes_at(2)
+    })
+}
+
+fn value_flags_agree(line: Line) -> bool {
+    ValueFlags::try_from(line.byte(1)).is_ok_and(|flags| {
+        let answers = [
+            flags.is_dynamic(),
+            flags.is_ifunc(),
+            flags.has_link_time_address(),
+            flags.is_absolute(),
+            flags.is_interposable(),
+        ];
+        answers.map(u8::from) == line.bytes_at(2)
+    })
 }
 
 // The Rust's unchecked range is i64::MIN to i64::MAX.
-fn range_agrees(range: AllowedRange, min: i64, max: i64) -> bool {
-    if range.checked {
-        return (min == range.min) & (max == range.max);
-    }
-    (min == -0x7fff_ffff_ffff_ffff - 1) & (max == 0x7fff_ffff_ffff_ffff)
-}
-
-fn relocation_agrees(line: &[u8]) -> bool {
-    match x86_64_types::relocation_from_raw(u32_at(line, 1)) {
-        RelocationFound::Is(info) => {
-            let kind = info.kind;
-            let range = info.range;
-            (byte(line, 5) == 0)
-                & (kind.number() == byte(line, 6))
-                & (info.size.byte_size == byte(line, 7))
-                & range_agrees(range, i64_at(line, 8), i64_at(line, 16))
-                & (info.alignment == byte(line, 24))
-                & (flag(info.mask) == byte(line, 25))
-                & (flag(info.bias) == byte(line, 26))
-                & (flag(info.thunkable) == byte(line, 27))
-                & (flag(info.implicit_addend) == byte(line, 28))
-        }
-        RelocationFound::Refused(n) => n == byte(line, 5),
-    }
-}
-
-fn dynamic_type(number: u8) -> u32 {
-    match number {
-        0 => DynamicRelocationKind::Copy.x86_64_r_type(),
-        1 => DynamicRelocationKind::Irelative.x86_64_r_type(),
-        2 => DynamicRelocationKind::DtpMod.x86_64_r_type(),
-        3 => DynamicRelocationKind::DtpOff.x86_64_r_type(),
-        4 => DynamicRelocationKind::TlsDesc.x86_64_r_type(),
-        5 => DynamicRelocationKind::TpOff.x86_64_r_type(),
-        6 => DynamicRelocationKind::Relative.x86_64_r_type(),
-        7 => DynamicRelocationKind::Absolute.x86_64_r_type(),
-        8 => DynamicRelocationKind::GotEntry.x86_64_r_type(),
-        9 => DynamicRelocationKind::JumpSlot.x86_64_r_type(),
-        _ => 0,
-    }
-}
-
-// Whether the buffer's first 16 bytes are those of the record from `at` on.
-fn buffer_agrees(line: &[u8], at: usize, buffer: [u8; 64]) -> bool {
-    let mut expected = [0u8; 16];
-    hex_lines::bytes_at(line, at, &mut expected);
-    check::same(&expected, &buffer[..16])
-}
-
-// The same of its first ten.
-fn ten_agree(line: &[u8], at: usize, buffer: [u8; 64]) -> bool {
-    let mut expected = [0u8; 10];
-    hex_lines::bytes_at(line, at, &mut expected);
-    check::same(&expected, &buffer[..10])
-}
-
-fn plt_agrees(line: &[u8]) -> bool {
-    let mut buffer = [0xa5u8; 64];
-    let n = byte(line, 1) as usize;
-    if 64 < n {
-        return false;
-    }
-    let answer = elf_x86_64_plt::write_plt_entry(
-        &mut buffer[..n],
-        u64_at(line, 2),
-        u64_at(line, 10),
-    );
-    let refusal = match answer {
-        PltEntry::Written => 0,
-        PltEntry::Refused(number) => number,
+fn range_agrees(range: AllowedRange, min: u64, max: u64) -> bool {
+    let ends = if range.checked {
+        (range.min, range.max)
+    } else {
+        (i64::MIN, i64::MAX)
     };
-    (refusal == byte(line, 18)) & buffer_agrees(line, 19, buffer)
+    ends == (min.cast_signed(), max.cast_signed())
 }
 
-fn padding_agrees(line: &[u8]) -> bool {
-    let mut buffer = [0xa5u8; 64];
-    let n = byte(line, 2) as usize;
-    if 64 < n {
-        return false;
-    }
-    elf_x86_64_plt::fill_section_padding(&mut buffer[..n], byte(line, 1) == 1);
-    buffer_agrees(line, 3, buffer)
-}
-
-fn contains_agrees(line: &[u8]) -> bool {
-    match x86_64_types::relocation_from_raw(u32_at(line, 1)) {
-        RelocationFound::Is(info) => {
-            let range = info.range;
-            flag(range.contains(i64_at(line, 5))) == byte(line, 13)
+fn relocation_agrees(line: Line) -> bool {
+    match relocation_from_raw(line.u32_at(1)) {
+        Ok(info) => {
+            let head = [0, info.kind as u8, info.size.byte_size];
+            let tail = [
+                info.alignment,
+                u8::from(info.mask),
+                u8::from(info.bias),
+                u8::from(info.thunkable),
+                u8::from(info.implicit_addend),
+            ];
+            (head == line.bytes_at(5))
+                & range_agrees(info.range, line.u64_at(8), line.u64_at(16))
+                & (tail == line.bytes_at(24))
         }
-        RelocationFound::Refused(_) => false,
+        Err(refusal) => refusal.number() == line.byte(5),
     }
 }
 
-fn byte_size_agrees(line: &[u8]) -> bool {
-    let sign = match byte(line, 2) {
+// A number that names no kind has type 0 here.
+fn dynamic_type_agrees(line: Line) -> bool {
+    let kind = DynamicRelocationKind::from_number(u32::from(line.byte(1)));
+    kind.map_or(0, |kind| kind.x86_64_r_type()) == line.u32_at(2)
+}
+
+// Whether a call that is lent the first `n` bytes of a buffer agrees, and the buffer begins with these bytes then.
+fn buffer_agrees<F: FnOnce(&mut [u8]) -> bool>(n: u8, first: &[u8], call: F) -> bool
+    requires { F.IsAlwaysCallable call }
+{
+    let mut buffer = [0xa5; 64];
+    let agrees = buffer.get_mut(..usize::from(n)).is_some_and(call);
+    agrees & buffer.starts_with(first)
+}
+
+fn plt_agrees(line: Line) -> bool {
+    buffer_agrees(line.byte(1), &line.bytes_at::<16>(19), |buffer| {
+        let written = elf_x86_64_plt::write_plt_entry(buffer, line.u64_at(2), line.u64_at(10));
+        written.map_or_else(Refusal::number, |_| 0) == line.byte(18)
+    })
+}
+
+fn padding_agrees(line: Line) -> bool {
+    buffer_agrees(line.byte(2), &line.bytes_at::<16>(3), |buffer| {
+        elf_x86_64_plt::fill_section_padding(buffer, line.byte(1) == 1);
+        true
+    })
+}
+
+fn contains_agrees(line: Line) -> bool {
+    relocation_from_raw(line.u32_at(1)).is_ok_and(|info| {
+        u8::from(info.range.contains(line.u64_at(5).cast_signed())) == line.byte(13)
+    })
+}
+
+fn byte_size_agrees(line: Line) -> bool {
+    let sign = match line.byte(2) {
         0 => Sign::Signed,
         _ => Sign::Unsigned,
     };
-    let width = match byte(line, 1) {
+    let width = match line.byte(1) {
         1 => ByteWidth::One,
         2 => ByteWidth::Two,
         4 => ByteWidth::Four,
         _ => ByteWidth::Eight,
     };
     let range = AllowedRange::from_byte_size(width, sign);
-    range_agrees(range, i64_at(line, 3), i64_at(line, 11))
+    range_agrees(range, line.u64_at(3), line.u64_at(11))
 }
 
 // 0 where nothing was filled, 255 where the field was, or the refusal.
-fn answer_of(filling: Filling) -> u8 {
-    match filling {
-        Filling::Nothing => 0,
-        Filling::Done => 255,
-        Filling::Refused(number) => number,
+fn answer_of(filled: Result<bool, Refusal>) -> u8 {
+    match filled {
+        Ok(false) => 0,
+        Ok(true) => 255,
+        Err(refusal) => refusal.number(),
     }
 }
 
-fn write_agrees(line: &[u8]) -> bool {
-    let mut buffer = [0xa5u8; 64];
-    let n = byte(line, 13) as usize;
-    if 64 < n {
-        return false;
-    }
-    match x86_64_types::relocation_from_raw(u32_at(line, 1)) {
-        RelocationFound::Is(info) => {
-            let value = u64_at(line, 5);
-            let answer = answer_of(elf_fill::write_to_buffer(info, value, &mut buffer[..n]));
-            (answer == byte(line, 14)) & ten_agree(line, 15, buffer)
-        }
-        RelocationFound::Refused(_) => false,
-    }
+fn write_agrees(line: Line) -> bool {
+    relocation_from_raw(line.u32_at(1)).is_ok_and(|info| {
+        buffer_agrees(line.byte(13), &line.bytes_at::<10>(15), |buffer| {
+            let written = elf_fill::write_to_buffer(info, line.u64_at(5), buffer);
+            answer_of(written.map(|_| true)) == line.byte(14)
+        })
+    })
 }
 
-fn field_of(line: &[u8]) -> Field {
+fn field_of(line: Line) -> Field {
     Field {
-        r_type: byte(line, 1) as u32,
-        offset: byte(line, 3) as u64,
-        address: u64_at(line, 4),
-        value: u64_at(line, 12),
-        addend: i64_at(line, 20),
+        r_type: u32::from(line.byte(1)),
+        offset: u64::from(line.byte(3)),
+        address: line.u64_at(4),
+        value: line.u64_at(12),
+        addend: line.u64_at(20).cast_signed(),
     }
 }
 
-fn fill_agrees(line: &[u8]) -> bool {
-    let mut buffer = [0xa5u8; 64];
-    let n = byte(line, 2) as usize;
-    if 64 < n {
-        return false;
-    }
-    let answer = answer_of(elf_fill::fill(&mut buffer[..n], field_of(line)));
-    (answer == byte(line, 28)) & ten_agree(line, 29, buffer)
+fn fill_agrees(line: Line) -> bool {
+    buffer_agrees(line.byte(2), &line.bytes_at::<10>(29), |buffer| {
+        answer_of(elf_fill::fill(buffer, field_of(line))) == line.byte(28)
+    })
 }
 
-// How many records of each function agree, and how many of any function don't.
-#[derive(Drop)]
-struct Tally {
-    output_kind: u64,
-    value_flags: u64,
-    relocation: u64,
-    dynamic: u64,
-    plt: u64,
-    padding: u64,
-    contains: u64,
-    byte_size: u64,
-    written: u64,
-    filled: u64,
-    differ: u64,
-}
-
-// The tally with one record more.
-fn tallied(mut t: Tally, line: &[u8]) -> Tally {
-    let tag = byte(line, 0);
-    let agrees = match tag {
-        1 => output_kind_agrees(line),
-        2 => value_flags_agree(line),
-        3 => relocation_agrees(line),
-        4 => dynamic_type(byte(line, 1)) == u32_at(line, 2),
-        5 => plt_agrees(line),
-        6 => padding_agrees(line),
-        7 => contains_agrees(line),
-        8 => byte_size_agrees(line),
-        9 => write_agrees(line),
-        10 => fill_agrees(line),
-        _ => false,
-    };
-    t.output_kind = more(t.output_kind, agrees & (tag == 1));
-    t.value_flags = more(t.value_flags, agrees & (tag == 2));
-    t.relocation = more(t.relocation, agrees & (tag == 3));
-    t.dynamic = more(t.dynamic, agrees & (tag == 4));
-    t.plt = more(t.plt, agrees & (tag == 5));
-    t.padding = more(t.padding, agrees & (tag == 6));
-    t.contains = more(t.contains, agrees & (tag == 7));
-    t.byte_size = more(t.byte_size, agrees & (tag == 8));
-    t.written = more(t.written, agrees & (tag == 9));
-    t.filled = more(t.filled, agrees & (tag == 10));
-    t.differ = more(t.differ, !agrees);
-    t
-}
-
-fn print_tally(t: Tally) {
-    print_count(b"output kinds", t.output_kind);
-    print_count(b"value flags", t.value_flags);
-    print_count(b"relocation types", t.relocation);
-    print_count(b"dynamic types", t.dynamic);
-    print_count(b"PLT entries", t.plt);
-    print_count(b"paddings", t.padding);
-    print_count(b"ranges", t.contains);
-    print_count(b"ranges of fields", t.byte_size);
-    print_count(b"values written", t.written);
-    print_count(b"fields filled", t.filled);
-    print_count(b"differ", t.differ);
-}
-
-fn main() {
-    let mut t = Tally {
-        output_kind: 0,
-        value_flags: 0,
-        relocation: 0,
-        dynamic: 0,
-        plt: 0,
-        padding: 0,
-        contains: 0,
-        byte_size: 0,
-        written: 0,
-        filled: 0,
-        differ: 0,
-    };
-    let mut turns = 0u64;
-    while turns < 1000000 {
-        let mut line = [0u8; 81];
-        let got = io::read_full(STDIN_FILENO, &mut line);
-        if got == 0 {
-            break;
+// Kept: alike in replay_relax, which says why.
+fn main(rt: HostRuntime) -> std::io::Result<()> {
+    // How many records of each function agree, and how many of any function don't.
+    let mut agree = [
+        "output kinds",
+        "value flags",
+        "relocation types",
+        "dynamic types",
+        "PLT entries",
+        "paddings",
+        "ranges",
+        "ranges of fields",
+        "values written",
+        "fields filled",
+    ]
+    .map(Count::new);
+    let mut differ = Count::new("differ");
+    hex_lines::for_each_line::<81, _>(|line| {
+        let function = Function::try_from(line.byte(0));
+        let agrees = function.is_ok_and(|function| function.agrees(line));
+        if let Ok(function) = function {
+            agree[function as usize].more(agrees);
         }
-        t = tallied(t, &line);
-        turns += 1;
+        differ.more(!agrees);
+    });
+    for count in agree {
+        println!(rt; "{count}")?;
     }
-    print_tally(t);
+    println!(rt; "{differ}")
 }

@@ -10,49 +10,111 @@
 // 92 new addend (8), 100 section (40). What an answer doesn't have is 0.
 #![tactic(auto)]
 
-use answers::{ChoiceAnswer, RelaxedAnswer};
-use elf_x86_64_relaxation::{Choice, Relaxation};
-use hex_lines::{byte, more, print_count, u32_at, u64_at};
+use answers::{ChoiceAnswer, MovedAnswer, RelaxedAnswer};
+use elf_x86_64_new_relaxation::new_relaxation;
+use elf_x86_64_relaxation::Relaxation;
+use hex_lines::{Count, Line};
+use refusal::Refusal;
+use relax::relax;
 use rules::Relocation;
+use x86_64_apply::apply;
 use x86_64_kind::RelaxationKind;
 
-const STDIN_FILENO: i32 = 0;
+// The function that a line is of, in the order of their numbers.
+#[derive(Clone, Copy)]
+enum Function {
+    Choosing,
+    Rewriting,
+    Relaxing,
+    Encodings,
+    Records,
+    Telling,
+}
 
-fn record_at(line: &[u8]) -> Relocation {
+impl TryFrom<u8> for Function {
+    type Error = ();
+
+    fn try_from(number: u8) -> Result<Function, ()> {
+        match number {
+            1 => Ok(Function::Choosing),
+            2 => Ok(Function::Rewriting),
+            3 => Ok(Function::Relaxing),
+            4 => Ok(Function::Encodings),
+            5 => Ok(Function::Records),
+            6 => Ok(Function::Telling),
+            _ => Err(()),
+        }
+    }
+}
+
+impl Function {
+    // What the port answers to a line, and leaves in its section.
+    fn answer(self, line: Line, section: &mut [u8]) -> RelaxedAnswer {
+        match self {
+            Function::Choosing => placeless(new_relaxation(section, record_at(line))),
+            Function::Rewriting => rewriting(line, section),
+            Function::Relaxing | Function::Encodings | Function::Records => {
+                relax(section, record_at(line)).into()
+            }
+            Function::Telling => placeless(Ok(Some(relaxation_at(line)))),
+        }
+    }
+
+    // Whether that is what the line says.
+    fn agrees(self, line: Line) -> bool {
+        let mut section = line.bytes_at::<40>(33);
+        let lent = section.get_mut(..usize::from(line.byte(32)));
+        let agrees = lent.is_some_and(|lent| self.answer(line, lent) == answer_at(line));
+        agrees & (section == line.bytes_at(100))
+    }
+}
+
+fn record_at(line: Line) -> Relocation {
     Relocation {
-        r_type: u32_at(line, 1),
-        offset: u64_at(line, 8),
-        flags: byte(line, 5),
-        output_kind: byte(line, 6),
-        executable: byte(line, 7) == 1,
-        address: u64_at(line, 16),
-        addend: elf::as_i64(u64_at(line, 24)),
+        r_type: line.u32_at(1),
+        offset: line.u64_at(8),
+        flags: line.byte(5),
+        output_kind: line.byte(6),
+        executable: line.byte(7) == 1,
+        address: line.u64_at(16),
+        addend: line.u64_at(24).cast_signed(),
     }
 }
 
-// A choice has no place, and rewriting no choice but that there is an answer.
-fn placeless(choice: Choice) -> RelaxedAnswer {
+// Of function 6.
+fn relaxation_at(line: Line) -> Relaxation {
+    Relaxation {
+        kind: RelaxationKind::from_number(line.byte(5), line.byte(6)),
+        new_type: line.u32_at(1),
+        mandatory: line.byte(7) == 1,
+    }
+}
+
+// A choice has no place.
+fn placeless(choice: Result<Option<Relaxation>, Refusal>) -> RelaxedAnswer {
     RelaxedAnswer {
-        choice: answers::choice_answer(choice),
-        offset: 0,
-        addend: 0,
+        choice: choice.into(),
+        ..RelaxedAnswer::default()
     }
 }
 
-fn choosing(line: &[u8], section: &[u8]) -> RelaxedAnswer {
-    placeless(elf_x86_64_new_relaxation::new_relaxation(section, record_at(line)))
-}
-
-fn rewriting(line: &[u8], section: &mut [u8]) -> RelaxedAnswer {
-    let kind = RelaxationKind::from_number(byte(line, 1), byte(line, 2));
-    let addend = elf::as_i64(u64_at(line, 24));
-    let applied = x86_64_apply::apply(kind, section, u64_at(line, 8), addend);
-    let moved = answers::moved_answer(applied);
-    let refusal = moved.refusal;
-    let head = if refusal == 0 { 256 } else { refusal as u64 };
+// Rewriting answers no choice, but that there is more.
+fn rewriting(line: Line, section: &mut [u8]) -> RelaxedAnswer {
+    let kind = RelaxationKind::from_number(line.byte(1), line.byte(2));
+    let addend = line.u64_at(24).cast_signed();
+    let moved = MovedAnswer::from(apply(kind, section, line.u64_at(8), addend));
     RelaxedAnswer {
         choice: ChoiceAnswer {
-            head: head,
+            head: u64::from_le_bytes([
+                moved.refusal,
+                u8::from(moved.refusal == 0),
+                0,
+                0,
+                0,
+                0,
+                0,
+                0,
+            ]),
             new_type: 0,
         },
         offset: moved.offset,
@@ -60,113 +122,53 @@ fn rewriting(line: &[u8], section: &mut [u8]) -> RelaxedAnswer {
     }
 }
 
-fn telling(line: &[u8]) -> RelaxedAnswer {
-    let relaxation = Relaxation {
-        kind: RelaxationKind::from_number(byte(line, 5), byte(line, 6)),
-        new_type: u32_at(line, 1),
-        mandatory: byte(line, 7) == 1,
-    };
-    placeless(Choice::Chosen(relaxation))
-}
-
-fn answer_of(line: &[u8], section: &mut [u8]) -> RelaxedAnswer {
-    match byte(line, 0) {
-        1 => choosing(line, section),
-        2 => rewriting(line, section),
-        6 => telling(line),
-        _ => answers::relaxed_answer(relax::relax(section, record_at(line))),
+// The answer that a line says. Its head's bytes are the line's 73 to 76, and 81 to 83.
+fn answer_at(line: Line) -> RelaxedAnswer {
+    let [refusal, more, kind, inst_offset] = line.bytes_at::<4>(73);
+    let [mandatory, skip, fallback] = line.bytes_at::<3>(81);
+    let head = [
+        refusal,
+        more,
+        kind,
+        inst_offset,
+        mandatory,
+        skip,
+        fallback,
+        0,
+    ];
+    RelaxedAnswer {
+        choice: ChoiceAnswer {
+            head: u64::from_le_bytes(head),
+            new_type: line.u32_at(77),
+        },
+        offset: line.u64_at(84),
+        addend: line.u64_at(92).cast_signed(),
     }
 }
 
-// The bytes of an answer's head in a line: 73 to 76, and 81 to 83.
-fn head_at(line: &[u8]) -> u64 {
-    u64_at(line, 73) % 0x1_0000_0000 + u64_at(line, 81) % 0x100_0000 * 0x1_0000_0000
-}
-
-fn answer_agrees(a: RelaxedAnswer, line: &[u8]) -> bool {
-    let choice = a.choice;
-    (choice.head == head_at(line))
-        & (choice.new_type == u32_at(line, 77))
-        & (a.offset == u64_at(line, 84))
-        & (a.addend == elf::as_i64(u64_at(line, 92)))
-}
-
-fn section_at(line: &[u8], at: usize) -> [u8; 40] {
-    let mut section = [0u8; 40];
-    hex_lines::bytes_at(line, at, &mut section);
-    section
-}
-
-fn same_section(a: [u8; 40], b: [u8; 40]) -> bool {
-    check::same(&a, &b)
-}
-
-fn agrees(line: &[u8]) -> bool {
-    let mut section = section_at(line, 33);
-    let n = byte(line, 32) as usize;
-    if 40 < n {
-        return false;
-    }
-    let a = answer_of(line, &mut section[..n]);
-    answer_agrees(a, line) & same_section(section, section_at(line, 100))
-}
-
-// How many lines of each function agree, and how many of any function don't.
-#[derive(Drop)]
-struct Tally {
-    choosing: u64,
-    rewriting: u64,
-    relaxing: u64,
-    encodings: u64,
-    records: u64,
-    telling: u64,
-    differ: u64,
-}
-
-// The tally with one line more.
-fn tallied(mut t: Tally, line: &[u8]) -> Tally {
-    let tag = byte(line, 0);
-    let known = (0 < tag) & (tag < 7);
-    let good = known & agrees(line);
-    t.choosing = more(t.choosing, good & (tag == 1));
-    t.rewriting = more(t.rewriting, good & (tag == 2));
-    t.relaxing = more(t.relaxing, good & (tag == 3));
-    t.encodings = more(t.encodings, good & (tag == 4));
-    t.records = more(t.records, good & (tag == 5));
-    t.telling = more(t.telling, good & (tag == 6));
-    t.differ = more(t.differ, !good);
-    t
-}
-
-fn print_tally(t: Tally) {
-    print_count(b"choosing", t.choosing);
-    print_count(b"rewriting", t.rewriting);
-    print_count(b"relaxing", t.relaxing);
-    print_count(b"llvm-mc encodings", t.encodings);
-    print_count(b"document 01 records", t.records);
-    print_count(b"what a relaxation tells", t.telling);
-    print_count(b"differ", t.differ);
-}
-
-fn main() {
-    let mut t = Tally {
-        choosing: 0,
-        rewriting: 0,
-        relaxing: 0,
-        encodings: 0,
-        records: 0,
-        telling: 0,
-        differ: 0,
-    };
-    let mut turns = 0u64;
-    while turns < 1000000 {
-        let mut line = [0u8; 281];
-        let got = io::read_full(STDIN_FILENO, &mut line);
-        if got == 0 {
-            break;
+// Kept: alike in replay; the enum, the names and the line's length differ, and a function over them would be longer.
+fn main(rt: HostRuntime) -> std::io::Result<()> {
+    // How many lines of each function agree, and how many of any function don't.
+    let mut agree = [
+        "choosing",
+        "rewriting",
+        "relaxing",
+        "llvm-mc encodings",
+        "document 01 records",
+        "what a relaxation tells",
+    ]
+    .map(Count::new);
+    let mut differ = Count::new("differ");
+    hex_lines::for_each_line::<281, _>(|line| {
+        let function = Function::try_from(line.byte(0));
+        let agrees = function.is_ok_and(|function| function.agrees(line));
+        if let Ok(function) = function {
+            agree[function as usize].more(agrees);
         }
-        t = tallied(t, &line);
-        turns += 1;
+        differ.more(!agrees);
+    });
+    for count in agree {
+        println!(rt; "{count}")?;
     }
-    print_tally(t);
+    println!(rt; "{differ}")
 }

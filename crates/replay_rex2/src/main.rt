@@ -3,74 +3,61 @@
 // width (1 is 64 bits), register, length, and the encoding (12 bytes, the rest 0), whose field is 0x11223344.
 #![tactic(auto)]
 
-use hex_lines::{byte, more, print_count};
+use hex_lines::{Count, Line};
+use machine_step::{Action, Op, Register, Source};
 
-const STDIN_FILENO: i32 = 0;
-
-fn encoding(line: &[u8]) -> [u8; 12] {
-    let mut code = [0u8; 12];
-    hex_lines::bytes_at(line, 5, &mut code);
-    code
-}
-
-// Whether the last four of n bytes are the field, and end the encoding.
-fn field_agrees(line: &[u8], n: u8) -> bool {
-    if n < 4 {
-        return false;
+// The action that a line names.
+fn action(line: Line) -> Option<Action> {
+    let source = match line.byte(1) {
+        0 => Source::Slot,
+        1 => Source::Imm,
+        2 => Source::Addr,
+        _ => return None,
+    };
+    let wide = line.byte(2) == 1;
+    let number = line.byte(3);
+    if 32 <= number {
+        return None;
     }
-    let at = 1 + n as usize;
-    (byte(line, at) == 0x44)
-        & (byte(line, at + 1) == 0x33)
-        & (byte(line, at + 2) == 0x22)
-        & (byte(line, at + 3) == 0x11)
-        & (n == byte(line, 4))
-}
-
-// Where the operation's result goes: to register k, but for cmp.
-fn target(operation: u8, k: u8) -> u8 {
-    if operation == 3 {
-        return machine_step::NOWHERE;
+    let register = Register { number };
+    let alu = |op, target| Action::Alu {
+        op,
+        wide,
+        target,
+        first: register,
+        source,
+        sets: true,
+    };
+    match line.byte(0) {
+        0 | 4 => Some(Action::Move {
+            wide,
+            target: register,
+            source,
+        }),
+        1 => Some(alu(Op::Add, Some(register))),
+        2 => Some(alu(Op::Sub, Some(register))),
+        3 => Some(alu(Op::Sub, None)),
+        _ => None,
     }
-    k
 }
 
-// Whether the encoding decodes to the form that the line names.
-fn agrees(line: &[u8]) -> bool {
-    let code = encoding(line);
-    let f = machine_step::decode(&code);
-    let operation = byte(line, 0);
-    let k = byte(line, 3);
-    let operands = (f.wide == (byte(line, 2) == 1))
-        & (f.target == target(operation, k))
-        & (f.source == byte(line, 1))
-        & field_agrees(line, f.long);
-    let moves = (operation == 0) | (operation == 4);
-    if moves {
-        return operands & (f.action == machine_step::MOVE);
-    }
-    operands
-        & (f.action == machine_step::ALU)
-        & (f.sub == (operation != 1))
-        & (f.first == k)
-        & f.sets
+// Whether the encoding decodes to the form that the line names, and its last four bytes are the field.
+fn agrees(line: Line) -> bool {
+    let code: [u8; 12] = line.bytes_at(5);
+    let form = machine_step::decode(&code);
+    let field = line.u32_at(1 + usize::from(form.long));
+    action(line).is_some_and(|action| form.action == Some(action))
+        && form.long == line.byte(4)
+        && field == 0x1122_3344
 }
 
-fn print_counts(all: u64, differ: u64) {
-    print_count(b"encodings", all);
-    print_count(b"differ", differ);
-}
-
-fn main() {
-    let mut differ = 0u64;
-    let mut turns = 0u64;
-    while turns < 1000000 {
-        let mut line = [0u8; 35];
-        let got = io::read_full(STDIN_FILENO, &mut line);
-        if got == 0 {
-            break;
-        }
-        differ = more(differ, !agrees(&line));
-        turns += 1;
-    }
-    print_counts(turns, differ);
+fn main(rt: HostRuntime) -> std::io::Result<()> {
+    let mut differ = Count::new("differ");
+    let count = hex_lines::for_each_line::<35, _>(|line| differ.more(!agrees(line)));
+    let encodings = Count {
+        name: "encodings",
+        count,
+    };
+    println!(rt; "{encodings}")?;
+    println!(rt; "{differ}")
 }

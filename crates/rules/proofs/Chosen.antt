@@ -1,6 +1,8 @@
 -- Choosing and then rewriting is relaxing: every kind that is chosen is allowed, and where one was chosen refusals 1 and 2 can't follow, so
 -- that rewriting's 6 is relaxing's.
 -- Assumes nothing.
+use Rattle.refusal.specs.declared.Refusal.{Refusal}
+use Rattle.std.specs.Prelude.{Ok, Err}
 use mathlib.Core.Path.{◌≡◌, refl, subst}
 use mathlib.Core.Bool.{Bool, true, false, cond, ◌||◌}
 use mathlib.Core.List.{List}
@@ -11,7 +13,8 @@ use Rattle.x86_64_kind.specs.declared.RelaxationKind.{RelaxationKind}
 use Rattle.x86_64_kind.specs.declared.RelaxationKind.TheVariants.{RexMovIndirectToAbsolute, RexAddIndirectToAbsolute, RexSubIndirectToAbsolute, RexCmpIndirectToAbsolute}
 use Rattle.x86_64_kind.specs.Kinds.{shape_of, inside, allowed}
 use Rattle.rules.specs.declared.Relocation.{Relocation}
-use Rattle.rules.specs.Answer.{Answer, gives, refuses}
+use Rattle.rules.specs.Answer.{Answer}
+use Rattle.refusal.specs.declared.Refusal.TheVariants.{WindowNotInside}
 use Rattle.rules.specs.Record.{Limit, too_long, past, flags_above, kind_above}
 use Rattle.rules.specs.Choose.{Choice, none, chosen, choose, choosing}
 use Rattle.rules.specs.Rewrite.{Rewritten, Relaxed, relaxed, rewrite, rewriting, claims, relax_chosen, relaxing}
@@ -47,16 +50,16 @@ allowed_choice sec r =
 
 -- what an answer of choosing says
 abbrev Passes : Limit → List ℕ → Relocation → Answer Choice → Type 0
-Passes l sec r (refuses n) = Unit {0}
-Passes l sec r (gives none) = Unit {0}
-Passes l sec r (gives (chosen k t m)) = (too_long l sec ≡ false) × (past sec r.offset ≡ false) × (allowed k ≡ true)
+Passes l sec r (Err n) = Unit {0}
+Passes l sec r (Ok none) = Unit {0}
+Passes l sec r (Ok (chosen k t m)) = (too_long l sec ≡ false) × (past sec r.offset ≡ false) × (allowed k ≡ true)
 
 module _ (l : Limit) (sec : List ℕ) (r : Relocation) where
-  test : (b : Bool) (n : ℕ) (a : Answer Choice) → (b ≡ false → Passes l sec r a) → Passes l sec r (cond b (refuses n) a)
+  test : (b : Bool) (n : Refusal) (a : Answer Choice) → (b ≡ false → Passes l sec r a) → Passes l sec r (cond b (Err n) a)
   test true n a h = tt
   test false n a h = h refl
 
-  given_choice : (c : Choice) → too_long l sec ≡ false → past sec r.offset ≡ false → Allowed c → Passes l sec r (gives c)
+  given_choice : (c : Choice) → too_long l sec ≡ false → past sec r.offset ≡ false → Allowed c → Passes l sec r (Ok c)
   given_choice none e p h = tt
   given_choice (chosen k t m) e p h = (e, p, h)
 
@@ -64,22 +67,22 @@ module _ (l : Limit) (sec : List ℕ) (r : Relocation) where
   unfolding choosing
   passes =
       test (too_long l sec) l.refusal _
-      (λ e. test (past sec r.offset) 2 _
-      (λ p. test (flags_above r.flags) 3 _
-      (λ _. test (kind_above r.output_kind) 4 _ (λ _. given_choice (choose sec r) e p (allowed_choice sec r)))))
+      (λ e. test (past sec r.offset) _ _
+      (λ p. test (flags_above r.flags) _ _
+      (λ _. test (kind_above r.output_kind) _ _ (λ _. given_choice (choose sec r) e p (allowed_choice sec r)))))
 
 -- rewriting's answer, with the choice
 abbrev pub then : RelaxationKind → ℕ → Bool → Answer Rewritten → Answer Relaxed
-then k t m (gives x) = gives (relaxed k t m x)
-then k t m (refuses n) = refuses n
+then k t m (Ok x) = Ok (relaxed k t m x)
+then k t m (Err n) = Err n
 
 pub relaxes : (l : Limit) (sec : List ℕ) (r : Relocation) (k : RelaxationKind) (t : ℕ) (m : Bool)
-    → choosing l sec r ≡ gives (chosen k t m) → relaxing l sec r ≡ then k t m (rewriting l k sec r.offset r.addend)
+    → choosing l sec r ≡ Ok (chosen k t m) → relaxing l sec r ≡ then k t m (rewriting l k sec r.offset r.addend)
 unfolding relaxing relax_chosen rewriting claims
 relaxes l sec r k t m e =
     let s = subst (Passes l sec r) e (passes l sec r) in
     rw (e, s.0, s.1, s.2) (by (inside (shape_of k).window (length sec) r.offset))
   where
-    by : (b : Bool) → cond b (gives (relaxed k t m (rewrite k sec r.offset r.addend))) (refuses 6) ≡ then k t m (cond b (gives (rewrite k sec r.offset r.addend)) (refuses 6))
+    by : (b : Bool) → cond b (Ok (relaxed k t m (rewrite k sec r.offset r.addend))) (Err WindowNotInside) ≡ then k t m (cond b (Ok (rewrite k sec r.offset r.addend)) (Err WindowNotInside))
     by true = refl
     by false = refl

@@ -1,5 +1,6 @@
 -- Filling: bytes that are written low byte first, at any width; and what an answer of `filling` means, by the tests that led to it.
 -- Assumes nothing.
+use Rattle.std.specs.Prelude.{Ok, Err}
 use mathlib.Core.Path.{◌≡◌, refl, sym, ap, ◌∙◌, subst}
 use mathlib.Core.Bool.{Bool, true, false, not, cond, ◌||◌}
 use mathlib.Core.List.{List}
@@ -17,7 +18,8 @@ use Rattle.laws.proofs.Bools.{either, never}
 use Rattle.laws.proofs.Keys.{is}
 use Rattle.laws.proofs.Stores.{run_before, run_at, run_after}
 use Rattle.rules.specs.declared.Field.{Field}
-use Rattle.rules.specs.Answer.{Answer, gives, refuses}
+use Rattle.rules.specs.Answer.{Answer}
+use Rattle.refusal.specs.declared.Refusal.TheVariants.{FieldNotInside, OffsetAboveLength, UnknownType, ValueOutOfRange}
 use Rattle.rules.specs.Record.{Limit, too_long, past}
 use Rattle.rules.specs.Range.{Sign, signed, unsigned, signed64, byte_range, contains, read_back, low_first, from_low, LowPart}
 use Rattle.rules.specs.Types.{lookup, earlier_types, later_types}
@@ -130,9 +132,9 @@ module _ (l : Limit) (sec : List ℕ) (f : Field) where
   test P true p q = p refl
   test P false p q = q refl
 
-  walk : (P : Answer Fill → Type 0) → (too_long l sec ≡ true → P (refuses l.refusal)) → P (refuses 2) → P (refuses 7)
-      → (cut sec f ≡ true → P (refuses 16)) → (fills f.r_type ≡ true → outside f ≡ true → P (refuses 15))
-      → (cut sec f ≡ false → outside f ≡ false → P (gives (filled (sets sec f.offset (low_first 4 (field_value f)))))) → P (gives unfilled)
+  walk : (P : Answer Fill → Type 0) → (too_long l sec ≡ true → P (Err l.refusal)) → P (Err OffsetAboveLength) → P (Err UnknownType)
+      → (cut sec f ≡ true → P (Err FieldNotInside)) → (fills f.r_type ≡ true → outside f ≡ true → P (Err ValueOutOfRange))
+      → (cut sec f ≡ false → outside f ≡ false → P (Ok (filled (sets sec f.offset (low_first 4 (field_value f)))))) → P (Ok unfilled)
       → P (filling l sec f)
   unfolding filling
   walk P long over strange short far done none =
@@ -141,9 +143,9 @@ module _ (l : Limit) (sec : List ℕ) (f : Field) where
       test P (unknown f.r_type) (λ _. strange) λ _.
       test P (fills f.r_type) (λ k. test P (cut sec f) short λ i. test P (outside f) (far k) (done i)) (λ _. none)
 
-  leaves : (base : ℕ) → loaded_at f base → (new : List ℕ) → filling l sec f ≡ gives (filled new) → FilledAt f base sec new
+  leaves : (base : ℕ) → loaded_at f base → (new : List ℕ) → filling l sec f ≡ Ok (filled new) → FilledAt f base sec new
   leaves base p new =
-      walk (λ (y : Answer Fill). y ≡ gives (filled new) → FilledAt f base sec new)
+      walk (λ (y : Answer Fill). y ≡ Ok (filled new) → FilledAt f base sec new)
       (λ _ z. never (cc)) (λ z. never (cc)) (λ z. never (cc)) (λ _ z. never (cc)) (λ _ _ z. never (cc))
       (λ i o z.
       let v = same_place f.r_type f.value f.address (base + f.offset) f.addend p in
@@ -154,7 +156,7 @@ module _ (l : Limit) (sec : List ℕ) (f : Field) where
       (λ z. never (cc))
 
   only : too_long l sec ≡ false → fills f.r_type ≡ true
-      → (base : ℕ) → loaded_at f base → (new : List ℕ) → FilledAt f base sec new → filling l sec f ≡ gives (filled new)
+      → (base : ℕ) → loaded_at f base → (new : List ℕ) → FilledAt f base sec new → filling l sec f ≡ Ok (filled new)
   unfolding filling
   only e k base p new h =
       let v = same_place f.r_type f.value f.address (base + f.offset) f.addend p in
@@ -163,12 +165,12 @@ module _ (l : Limit) (sec : List ℕ) (f : Field) where
       let s : sets sec f.offset (low_first 4 (field_value f)) ≡ new = rw v (only_stored h.holds) in
       rw (e, le-ltb (length sec) f.offset (omega arith), known f.r_type k, k, le-ltb (length sec) (f.offset + 4) inside, r, s)
 
-  refused_15 : too_long l sec ≡ false → filling l sec f ≡ refuses 15 → (fills f.r_type ≡ true) × (outside f ≡ true)
+  refused_15 : too_long l sec ≡ false → filling l sec f ≡ Err ValueOutOfRange → (fills f.r_type ≡ true) × (outside f ≡ true)
   refused_15 e =
-      walk (λ (y : Answer Fill). y ≡ refuses 15 → (fills f.r_type ≡ true) × (outside f ≡ true))
+      walk (λ (y : Answer Fill). y ≡ Err ValueOutOfRange → (fills f.r_type ≡ true) × (outside f ≡ true))
       (λ g z. never (cc)) (λ z. never (cc)) (λ z. never (cc)) (λ _ z. never (cc)) (λ k o z. (k, o)) (λ _ _ z. never (cc)) (λ z. never (cc))
 
-  wide : too_long l sec ≡ false → filling l sec f ≡ refuses 15 → (b : ℕ) → b < 2 ^ 32 → read_back 4 (sign_of f.r_type) b ≡ field_value f → ⊥
+  wide : too_long l sec ≡ false → filling l sec f ≡ Err ValueOutOfRange → (b : ℕ) → b < 2 ^ 32 → read_back 4 (sign_of f.r_type) b ≡ field_value f → ⊥
   wide e q b h r =
       let t = f.r_type in
       let x = field_value f in
@@ -178,9 +180,9 @@ module _ (l : Limit) (sec : List ℕ) (f : Field) where
       = in_range_at x t p.0 ∙ ((keeps four (sign_of t)).keeps x (relocated-lt t f.value f.address f.addend) ∙ rw (low, r) (eq-eqb x x refl)) in
       never (cc)
 
-  short : too_long l sec ≡ false → filling l sec f ≡ refuses 16 → length sec < f.offset + 4
+  short : too_long l sec ≡ false → filling l sec f ≡ Err FieldNotInside → length sec < f.offset + 4
   short e =
-      walk (λ (y : Answer Fill). y ≡ refuses 16 → length sec < f.offset + 4)
+      walk (λ (y : Answer Fill). y ≡ Err FieldNotInside → length sec < f.offset + 4)
       (λ g z. never (cc)) (λ z. never (cc)) (λ z. never (cc)) (λ i z. ltb-true (length sec) (f.offset + 4) i) (λ _ _ z. never (cc)) (λ _ _ z. never (cc)) (λ z. never (cc))
 
   pub exact : Fills l sec f

@@ -1,11 +1,12 @@
 -- The worked instances meet every premise: the tests are computed, filling among them.
 -- Assumes nothing.
+use Rattle.std.specs.Prelude.{Ok, Err}
 use mathlib.Core.Path.{◌≡◌, refl, sym, subst}
 use mathlib.Core.Bool.{◌&&◌}
 use Prim.Native.Nat.{◌+◌, ◌-◌}
 use lib.Dec.{T, leb, leb→le}
 use lib.ListN.{length, get_or}
-use Rattle.rules.specs.Answer.{Answer, gives, refuses}
+use Rattle.rules.specs.Answer.{Answer}
 use Rattle.rules.specs.Record.{link_limit}
 use Rattle.rules.specs.Range.{byte_range, signed64}
 use Rattle.rules.specs.Types.{lookup, earlier_types, later_types}
@@ -21,13 +22,13 @@ use Rattle.rules.proofs.Theorem.{same_meaning_of}
 
 module _ (c : Case) (i : Instruction c.section c.record') where
   from : (a : Answer Relaxed) → relaxing_of c ≡ a → T (is_filled (filling_of c a)) → Instance c
-  from (refuses n) e t = absurd t
-  from (gives unrelaxed) e t = absurd t
-  from (gives (relaxed k n m x)) e t = fill (filling link_limit x.bytes (field_of c n x)) refl t where
+  from (Err n) e t = absurd t
+  from (Ok unrelaxed) e t = absurd t
+  from (Ok (relaxed k n m x)) e t = fill (filling link_limit x.bytes (field_of c n x)) refl t where
     fill : (y : Answer Fill) → filling link_limit x.bytes (field_of c n x) ≡ y → T (is_filled y) → Instance c
-    fill (refuses r) q u = absurd u
-    fill (gives unfilled) q u = absurd u
-    fill (gives (filled new)) q u =
+    fill (Err r) q u = absurd u
+    fill (Ok unfilled) q u = absurd u
+    fill (Ok (filled new)) q u =
         record {
           instruction = i;
           kind = k;

@@ -1,13 +1,15 @@
 -- Every answer of the lookup conforms to the psABI: one list of what the 39 rows hold, one of what the psABI states of their numbers, and
 -- antt computes that the two are the same; and the psABI's numbers, without those of the 39 rows, are the numbers left out.
 -- Assumes nothing.
+use Rattle.std.specs.Prelude.{Ok, Err}
 use mathlib.Core.Path.{◌≡◌, refl, ap, sym, ◌∙◌}
 use mathlib.Core.Bool.{Bool, true, false, cond, ◌||◌}
 use mathlib.Core.List.{List, [], ◌∷◌, map}
 use Prim.Native.Nat.{ℕ}
 use lib.Dec.{eqb}
 use borrow.Author.Tests.{eqb-true}
-use Rattle.rules.specs.Answer.{Answer, gives, refuses}
+use Rattle.rules.specs.Answer.{Answer}
+use Rattle.refusal.specs.declared.Refusal.TheVariants.{UnknownType}
 use Rattle.rules.specs.Range.{byte_range}
 use Rattle.rules.specs.Types.{Row, Entry, earlier_types, later_types, types, find, lookup}
 use Rattle.rules.specs.Psabi.{table, numbers, among, psabi, is_listed, left_out_types, is_left_out, holds, stated_value, stated_range, row_facts, psabi_facts, Conforms, agrees, left_out, LeftOutRows, DynamicNames}
@@ -29,13 +31,13 @@ parted = refl
 
 -- ---- from the lists to the answer at any number
 
-one : (e : Entry) (x : Answer Row) (t : ℕ) → row_facts e.info ≡ psabi_facts e.type → (b : Bool) → eqb t e.type ≡ b → (b ≡ false → Conforms t x) → Conforms t (cond b (gives e.info) x)
+one : (e : Entry) (x : Answer Row) (t : ℕ) → row_facts e.info ≡ psabi_facts e.type → (b : Bool) → eqb t e.type ≡ b → (b ≡ false → Conforms t x) → Conforms t (cond b (Ok e.info) x)
 one e x t h true q k = rw (eqb-true t e.type q) (agrees h)
 one e x t h false q k = k refl
 
 found :
     (es : List Entry) (t : ℕ) → map (λ (e : Entry). row_facts e.info) es ≡ map (λ (e : Entry). psabi_facts e.type) es
-    → (among t (map (λ (e : Entry). e.type) es) ≡ false → Conforms t (refuses 7)) → Conforms t (find es t)
+    → (among t (map (λ (e : Entry). e.type) es) ≡ false → Conforms t (Err UnknownType)) → Conforms t (find es t)
 found [] t p k = k refl
 found (e ∷ es) t p k =
     one e (find es t) t (cc) (eqb t e.type) refl (λ q. found es t (cc) (λ r. k (rw (q, r))))

@@ -1,6 +1,8 @@
 -- The theorem. The choice is walked forward (Walked); where a kind is chosen, the kind's law closes it. Relaxing, and choosing and then
 -- rewriting, give that section.
 -- Assumes nothing.
+use Rattle.refusal.specs.declared.Refusal.{Refusal}
+use Rattle.std.specs.Prelude.{Ok, Err}
 use mathlib.Core.Path.{◌≡◌, refl, subst, ◌∙◌}
 use mathlib.Core.Bool.{Bool, true, false, ◌||◌, cond}
 use mathlib.Core.List.{List}
@@ -13,7 +15,7 @@ use Rattle.x86_64_kind.specs.declared.RelaxationKind.{RelaxationKind}
 use Rattle.x86_64_kind.specs.declared.RelaxationKind.TheVariants.{MovIndirectToLea}
 use Rattle.x86_64_kind.specs.Kinds.{shape_of, inside, allowed}
 use Rattle.rules.specs.declared.Relocation.{Relocation}
-use Rattle.rules.specs.Answer.{Answer, gives, refuses}
+use Rattle.rules.specs.Answer.{Answer}
 use Rattle.rules.specs.Record.{Limit, too_long, past, flags_above, kind_above}
 use Rattle.rules.specs.Choose.{Choice, none, chosen, is_rex_w, choose, choosing}
 use Rattle.rules.specs.Rewrite.{to_absolute, Rewritten, Filled, relaxed, rewrite, rewriting, claims, relax_chosen, relaxing}
@@ -122,42 +124,42 @@ module _ (sec : List ℕ) (r : Relocation) (i : Instruction sec r) where
 -- ---- from relaxing, and from choosing and rewriting, to the choice and the rewritten section
 
 -- what stands behind a test that refuses, and what is given where a test holds
-pub behind : {A : Type 0} (c : Bool) (n : ℕ) (x : Answer A) (a : A) → cond c (refuses n) x ≡ gives a → x ≡ gives a
+pub behind : {A : Type 0} (c : Bool) (n : Refusal) (x : Answer A) (a : A) → cond c (Err n) x ≡ Ok a → x ≡ Ok a
 behind true n x a e = never (cc)
 behind false n x a e = e
 
-where_true : {A : Type 0} (c : Bool) (n : ℕ) (x : Answer A) (a : A) → cond c x (refuses n) ≡ gives a → x ≡ gives a
+where_true : {A : Type 0} (c : Bool) (n : Refusal) (x : Answer A) (a : A) → cond c x (Err n) ≡ Ok a → x ≡ Ok a
 where_true true n x a e = e
 where_true false n x a e = never (cc)
 
-pub chose : (l : Limit) (sec : List ℕ) (r : Relocation) (c : Choice) → choosing l sec r ≡ gives c → choose sec r ≡ c
+pub chose : (l : Limit) (sec : List ℕ) (r : Relocation) (c : Choice) → choosing l sec r ≡ Ok c → choose sec r ≡ c
 unfolding choosing
 chose l sec r c e =
-    let p : gives (choose sec r) ≡ gives c = behind (kind_above r.output_kind) 4 _ c (behind (flags_above r.flags) 3 _ c (behind (past sec r.offset) 2 _ c (behind (too_long l sec) l.refusal _ c e))) in
+    let p : Ok (choose sec r) ≡ Ok c = behind (kind_above r.output_kind) _ _ c (behind (flags_above r.flags) _ _ c (behind (past sec r.offset) _ _ c (behind (too_long l sec) l.refusal _ c e))) in
     cc
 
 module _ (sec : List ℕ) (r : Relocation) (k : RelaxationKind) (t : ℕ) (m : Bool) (x : Rewritten) where
   record Parts (a : Answer Choice) : Type 0 where
-    choice : a ≡ gives (chosen k t m)
+    choice : a ≡ Ok (chosen k t m)
     result : rewrite k sec r.offset r.addend ≡ x
 
-  taken : (a : Answer Choice) → relax_chosen sec r a ≡ gives (relaxed k t m x) → Parts a
+  taken : (a : Answer Choice) → relax_chosen sec r a ≡ Ok (relaxed k t m x) → Parts a
   unfolding relax_chosen
-  taken (refuses n) e = never (cc)
-  taken (gives none) e = never (cc)
-  taken (gives (chosen k' t' m')) e =
-      let f = where_true (inside (claims k' t') (length sec) r.offset) 6 _ _ e in
+  taken (Err n) e = never (cc)
+  taken (Ok none) e = never (cc)
+  taken (Ok (chosen k' t' m')) e =
+      let f = where_true (inside (claims k' t') (length sec) r.offset) _ _ _ e in
       let p : k' ≡ k = cc in
       let q : rewrite k' sec r.offset r.addend ≡ x = cc in
       record { choice = cc; result = subst (λ (j : RelaxationKind). rewrite j sec r.offset r.addend ≡ x) p q }
 
-  done : (l : Limit) → rewriting l k sec r.offset r.addend ≡ gives x → rewrite k sec r.offset r.addend ≡ x
+  done : (l : Limit) → rewriting l k sec r.offset r.addend ≡ Ok x → rewrite k sec r.offset r.addend ≡ x
   unfolding rewriting
   done l e =
-      let f = where_true (inside (shape_of k).window (length sec) r.offset) 6 _ _ (where_true (allowed k) 5 _ _ (behind (past sec r.offset) 2 _ _ (behind (too_long l sec) l.refusal _ _ e))) in
+      let f = where_true (inside (shape_of k).window (length sec) r.offset) _ _ _ (where_true (allowed k) _ _ _ (behind (past sec r.offset) _ _ _ (behind (too_long l sec) l.refusal _ _ e))) in
       cc
 
-  means : (l : Limit) → Instruction sec r → choosing l sec r ≡ gives (chosen k t m) → rewrite k sec r.offset r.addend ≡ x → EndsAlike sec r t x
+  means : (l : Limit) → Instruction sec r → choosing l sec r ≡ Ok (chosen k t m) → rewrite k sec r.offset r.addend ≡ x → EndsAlike sec r t x
   means l i e q =
       ends_alike (subst (Anyhow sec r t) q (subst (Means sec r) (chose l sec r (chosen k t m) e) (walk sec r (Means sec r) (cases sec r i))))
 

@@ -1,8 +1,9 @@
 -- Document 01, 'Choosing', in its order; the rules that come before the type (ifunc, not executable) are joined to it at the end. Assumes
 -- nothing.
-use Rattle.std.specs.Prelude.{Bool, true, false, not, ◌&&◌, ◌||◌, cond, List, [], ◌∷◌, ℕ, ◌+◌, ◌-◌, leb, eqb, length, get_or, drop, ℤ, pos, negsuc}
+use Rattle.std.specs.Prelude.{Bool, true, false, not, ◌&&◌, ◌||◌, cond, List, [], ◌∷◌, ℕ, ◌+◌, ◌-◌, leb, eqb, length, get_or, drop, ℤ, pos, negsuc, Ok, Err}
 use Rattle.std.specs.Int.Bits.{bit_and}
-use Rattle.rules.specs.Answer.{Answer, gives, refuses, whether}
+use Rattle.rules.specs.Answer.{Answer, whether}
+use Rattle.refusal.specs.declared.Refusal.TheVariants.{FlagNumber, OffsetAboveLength, OutputKindNumber}
 use Rattle.rules.specs.declared.Relocation.{Relocation}
 use Rattle.rules.specs.Record.{Limit, too_long, past, flags_above, kind_above, is_n, is_a, is_k, is_f, is_s, is_e, is_p, ifunc}
 use Rattle.rules.specs.Range.{contains, signed64}
@@ -203,10 +204,10 @@ module _ (sec : List ℕ) (r : Relocation) where
 -- "Choosing alone: 1, 2, 3, 4"
 unfoldable pub choosing : Limit → List ℕ → Relocation → Answer Choice
 choosing l sec r =
-    cond (too_long l sec) (refuses l.refusal)
-    (cond (past sec r.offset) (refuses 2)
-    (cond (flags_above r.flags) (refuses 3)
-    (cond (kind_above r.output_kind) (refuses 4) (gives (choose sec r)))))
+    cond (too_long l sec) (Err l.refusal)
+    (cond (past sec r.offset) (Err OffsetAboveLength)
+    (cond (flags_above r.flags) (Err FlagNumber)
+    (cond (kind_above r.output_kind) (Err OutputKindNumber) (Ok (choose sec r)))))
 
 -- `needs_got_fallback`: the new type's kind is Absolute
 unfoldable pub needs_fallback : ℕ → Bool

@@ -1,8 +1,9 @@
 -- Document 02, card 4: filling the field. A field is the code's own struct. Assumes nothing.
-use Rattle.std.specs.Prelude.{◌≡◌, Bool, true, false, not, cond, ◌||◌, List, ℕ, ◌+◌, ◌%◌, ◌^◌, ◌<◌, eqb, ltb, ℤ, length}
+use Rattle.std.specs.Prelude.{◌≡◌, Bool, true, false, not, cond, ◌||◌, List, ℕ, ◌+◌, ◌%◌, ◌^◌, ◌<◌, eqb, ltb, ℤ, length, Ok, Err}
 use Rattle.std.proofs.lemmas.List.Edits.{sets}
 use Rattle.rules.specs.declared.Field.{Field}
-use Rattle.rules.specs.Answer.{Answer, gives, refuses, whether}
+use Rattle.rules.specs.Answer.{Answer, whether}
+use Rattle.refusal.specs.declared.Refusal.TheVariants.{FieldNotInside, OffsetAboveLength, UnknownType, ValueOutOfRange}
 use Rattle.rules.specs.Record.{Limit, too_long, past}
 use Rattle.rules.specs.Range.{Sign, signed, unsigned, signed64, read_back, low_first}
 use Rattle.rules.specs.Types.{Row, lookup}
@@ -42,19 +43,19 @@ pub data Fill : Type 0 where
 -- with no test of 16 or 15"; "It writes four bytes, low byte first, and no others"
 unfoldable pub filling : Limit → List ℕ → Field → Answer Fill
 filling l sec f =
-    cond (too_long l sec) (refuses l.refusal)
-    (cond (past sec f.offset) (refuses 2)
-    (cond (unknown f.r_type) (refuses 7)
+    cond (too_long l sec) (Err l.refusal)
+    (cond (past sec f.offset) (Err OffsetAboveLength)
+    (cond (unknown f.r_type) (Err UnknownType)
     (cond (fills f.r_type)
-    (cond (cut sec f) (refuses 16)
-    (cond (outside f) (refuses 15) (gives (filled (sets sec f.offset (low_first 4 (field_value f)))))))
-    (gives unfilled))))
+    (cond (cut sec f) (Err FieldNotInside)
+    (cond (outside f) (Err ValueOutOfRange) (Ok (filled (sets sec f.offset (low_first 4 (field_value f)))))))
+    (Ok unfilled))))
 
 -- the section afterwards
 unfoldable pub after_filling : List ℕ → Answer Fill → List ℕ
-after_filling sec (gives (filled new)) = new
-after_filling sec (gives unfilled) = sec
-after_filling sec (refuses n) = sec
+after_filling sec (Ok (filled new)) = new
+after_filling sec (Ok unfilled) = sec
+after_filling sec (Err n) = sec
 
 -- ---- what an answer means
 
@@ -72,13 +73,13 @@ sign_of t = cond (eqb t 10) unsigned signed
 
 pub record Fills (l : Limit) (sec : List ℕ) (f : Field) : Type 0 where
   -- where it says filled, what it leaves is Filled
-  pub leaves : (base : ℕ) → loaded_at f base → (new : List ℕ) → filling l sec f ≡ gives (filled new) → FilledAt f base sec new
+  pub leaves : (base : ℕ) → loaded_at f base → (new : List ℕ) → filling l sec f ≡ Ok (filled new) → FilledAt f base sec new
   -- and only there: of the four types, within the limit, where any section is Filled it says so and leaves that one
   pub only :
       too_long l sec ≡ false → fills f.r_type ≡ true
-      → (base : ℕ) → loaded_at f base → (new : List ℕ) → FilledAt f base sec new → filling l sec f ≡ gives (filled new)
+      → (base : ℕ) → loaded_at f base → (new : List ℕ) → FilledAt f base sec new → filling l sec f ≡ Ok (filled new)
   -- under 15 no section is, and no four bytes, read back with the type's sign, are the value
-  pub far : too_long l sec ≡ false → filling l sec f ≡ refuses 15 → (base : ℕ) → loaded_at f base → (new : List ℕ) → FilledAt f base sec new → ⊥
-  pub wide : too_long l sec ≡ false → filling l sec f ≡ refuses 15 → (b : ℕ) → b < 2 ^ 32 → read_back 4 (sign_of f.r_type) b ≡ field_value f → ⊥
+  pub far : too_long l sec ≡ false → filling l sec f ≡ Err ValueOutOfRange → (base : ℕ) → loaded_at f base → (new : List ℕ) → FilledAt f base sec new → ⊥
+  pub wide : too_long l sec ≡ false → filling l sec f ≡ Err ValueOutOfRange → (b : ℕ) → b < 2 ^ 32 → read_back 4 (sign_of f.r_type) b ≡ field_value f → ⊥
   -- under 16 the field is cut
-  pub short : too_long l sec ≡ false → filling l sec f ≡ refuses 16 → length sec < f.offset + 4
+  pub short : too_long l sec ≡ false → filling l sec f ≡ Err FieldNotInside → length sec < f.offset + 4

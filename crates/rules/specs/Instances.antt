@@ -1,7 +1,7 @@
 -- Worked instances of the theorem, one for each of the eight kinds that the rules choose for these types, and for REX2: each is relaxed and
 -- filled, and meets all premises. `4C 8B 2D` is among them, and ends with r13 changed and rbp not. Assumes nothing.
-use Rattle.std.specs.Prelude.{◌≡◌, Bool, true, false, cond, ◌&&◌, List, [], ◌∷◌, map, ℕ, ◌+◌, ◌-◌, ◌*◌, ◌/◌, ◌%◌, ◌^◌, leb, ltb, length, get_or, negsuc}
-use Rattle.rules.specs.Answer.{Answer, gives, refuses}
+use Rattle.std.specs.Prelude.{◌≡◌, Bool, true, false, cond, ◌&&◌, List, [], ◌∷◌, map, ℕ, ◌+◌, ◌-◌, ◌*◌, ◌/◌, ◌%◌, ◌^◌, leb, ltb, length, get_or, negsuc, Ok, Err, Option, Some, None}
+use Rattle.rules.specs.Answer.{Answer}
 use Rattle.x86_64_kind.specs.declared.RelaxationKind.{RelaxationKind}
 use Rattle.x86_64_kind.specs.Kinds.{shape_of}
 use Rattle.rules.specs.declared.Relocation.{Relocation}
@@ -45,15 +45,15 @@ abbrev pub field_of : Case → ℕ → Rewritten → Field
 field_of c t x = field t x.offset ((c.base + x.offset) % word) (value_of c) x.addend
 
 abbrev pub filling_of : Case → Answer Relaxed → Answer Fill
-filling_of c (refuses n) = refuses n
-filling_of c (gives unrelaxed) = gives unfilled
-filling_of c (gives (relaxed k t m x)) = filling link_limit x.bytes (field_of c t x)
+filling_of c (Err n) = Err n
+filling_of c (Ok unrelaxed) = Ok unfilled
+filling_of c (Ok (relaxed k t m x)) = filling link_limit x.bytes (field_of c t x)
 
 -- the premises, as one test
 abbrev pub is_filled : Answer Fill → Bool
-is_filled (refuses n) = false
-is_filled (gives unfilled) = false
-is_filled (gives (filled new)) = true
+is_filled (Err n) = false
+is_filled (Ok unfilled) = false
+is_filled (Ok (filled new)) = true
 
 abbrev pub meets : Case → Bool
 meets c =
@@ -70,9 +70,9 @@ pub record Instance (c : Case) : Type 0 where
   pub new_type : ℕ
   pub mandatory : Bool
   pub result : Rewritten
-  pub relaxes : relaxing_of c ≡ gives (relaxed kind new_type mandatory result)
+  pub relaxes : relaxing_of c ≡ Ok (relaxed kind new_type mandatory result)
   pub new : List ℕ
-  pub fills : filling link_limit result.bytes (field_of c new_type result) ≡ gives (filled new)
+  pub fills : filling link_limit result.bytes (field_of c new_type result) ≡ Ok (filled new)
   pub holds : Filled new_type result.addend result.offset c.base (value_of c) result.bytes new
   pub alike : Alike (step c.section (start c.record') c.base (state_of c)) (step new (start c.record') c.base (state_of c))
 
@@ -116,22 +116,22 @@ cases =
 abbrev pub kind_number_of : Case → ℕ
 kind_number_of c = number (relaxing_of c) where
   number : Answer Relaxed → ℕ
-  number (refuses n) = 19
-  number (gives unrelaxed) = 19
-  number (gives (relaxed k t m r)) = (shape_of k).number
+  number (Err n) = 19
+  number (Ok unrelaxed) = 19
+  number (Ok (relaxed k t m r)) = (shape_of k).number
 
 -- what relaxing gives, and what choosing and then rewriting give: kind, new type, mandatory, and the rest as rewriting gives it
-abbrev pub relaxed_as : Answer Relaxed → Answer Choice × Answer Rewritten
-relaxed_as (refuses n) = (refuses n, refuses n)
-relaxed_as (gives unrelaxed) = (gives none, refuses 0)
-relaxed_as (gives (relaxed k t m r)) = (gives (chosen k t m), gives r)
+abbrev pub relaxed_as : Answer Relaxed → Answer Choice × Option (Answer Rewritten)
+relaxed_as (Err n) = (Err n, None)
+relaxed_as (Ok unrelaxed) = (Ok none, None)
+relaxed_as (Ok (relaxed k t m r)) = (Ok (chosen k t m), Some (Ok r))
 
-abbrev pub chosen_as : Case → Answer Choice × Answer Rewritten
+abbrev pub chosen_as : Case → Answer Choice × Option (Answer Rewritten)
 chosen_as c = by (choosing link_limit c.section c.record') where
-  by : Answer Choice → Answer Choice × Answer Rewritten
-  by (refuses n) = (refuses n, refuses n)
-  by (gives none) = (gives none, refuses 0)
-  by (gives (chosen k t m)) = (gives (chosen k t m), rewriting link_limit k c.section c.record'.offset (negsuc 3))
+  by : Answer Choice → Answer Choice × Option (Answer Rewritten)
+  by (Err n) = (Err n, None)
+  by (Ok none) = (Ok none, None)
+  by (Ok (chosen k t m)) = (Ok (chosen k t m), Some (rewriting link_limit k c.section c.record'.offset (negsuc 3)))
 
 -- the section, relaxed and filled; a register after the instruction
 abbrev pub section_left : Case → List ℕ

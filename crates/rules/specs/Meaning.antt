@@ -1,9 +1,8 @@
 -- Demand 3, as a statement: "document 01's machine, from any state, ends alike on the old instruction and on the relaxed and filled one
 -- (types 9, 22, 41 to 44)". Assumes nothing.
-use Rattle.std.specs.Prelude.{◌≡◌, Bool, cond, ◌||◌, List, ℕ, ◌+◌, ◌-◌, ◌%◌, ◌≤◌, T, eqb, length, get_or}
+use Rattle.std.specs.Prelude.{◌≡◌, Bool, cond, ◌||◌, List, ℕ, ◌+◌, ◌-◌, ◌%◌, ◌≤◌, T, eqb, length, get_or, Ok}
 use Rattle.x86_64_kind.specs.declared.RelaxationKind.{RelaxationKind}
 use Rattle.rules.specs.declared.Relocation.{Relocation}
-use Rattle.rules.specs.Answer.{gives}
 use Rattle.rules.specs.Record.{Limit}
 use Rattle.rules.specs.Choose.{chosen, choosing, is_rex_w}
 use Rattle.rules.specs.Rewrite.{Rewritten, rewriting, relaxed, relaxing, Filled}
@@ -54,7 +53,7 @@ pub record EndsAlike (sec : List ℕ) (r : Relocation) (t : ℕ) (x : Rewritten)
   -- symbol value"
   pub by_fill :
       (base : ℕ) (s : State) (new : List ℕ) (l : Limit)
-      → filling l x.bytes (field t x.offset ((base + x.offset) % word) (slot_value sec r.offset base s.mem) x.addend) ≡ gives (filled new)
+      → filling l x.bytes (field t x.offset ((base + x.offset) % word) (slot_value sec r.offset base s.mem) x.addend) ≡ Ok (filled new)
       → Alike (step sec (start r) base s) (step new (start r) base s)
 
 -- what is said of a section's records, whatever the limit
@@ -62,11 +61,11 @@ pub record SameMeaning (sec : List ℕ) : Type 0 where
   -- after relaxing
   pub relaxes :
       (l : Limit) (r : Relocation) → Instruction sec r
-      → (k : RelaxationKind) (t : ℕ) (m : Bool) (x : Rewritten) → relaxing l sec r ≡ gives (relaxed k t m x)
+      → (k : RelaxationKind) (t : ℕ) (m : Bool) (x : Rewritten) → relaxing l sec r ≡ Ok (relaxed k t m x)
       → EndsAlike sec r t x
   -- after choosing and then rewriting
   pub rewrites :
       (l : Limit) (r : Relocation) → Instruction sec r
-      → (k : RelaxationKind) (t : ℕ) (m : Bool) (x : Rewritten) → choosing l sec r ≡ gives (chosen k t m)
-      → rewriting l k sec r.offset r.addend ≡ gives x
+      → (k : RelaxationKind) (t : ℕ) (m : Bool) (x : Rewritten) → choosing l sec r ≡ Ok (chosen k t m)
+      → rewriting l k sec r.offset r.addend ≡ Ok x
       → EndsAlike sec r t x

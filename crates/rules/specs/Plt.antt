@@ -1,7 +1,8 @@
 -- Document 01, 'Below: PLT, padding': a PLT entry and a section's padding. Assumes nothing.
-use Rattle.std.specs.Prelude.{Bool, cond, List, [], ◌∷◌, ℕ, ◌+◌, ◌-◌, ◌%◌, ◌^◌, eqb, length, replicate}
+use Rattle.std.specs.Prelude.{Bool, cond, List, [], ◌∷◌, ℕ, ◌+◌, ◌-◌, ◌%◌, ◌^◌, eqb, length, replicate, Ok, Err}
 use Rattle.std.proofs.lemmas.List.Edits.{sets}
-use Rattle.rules.specs.Answer.{Answer, gives, refuses}
+use Rattle.rules.specs.Answer.{Answer}
+use Rattle.refusal.specs.declared.Refusal.TheVariants.{PltEntrySize, PltOutOfReach}
 use Rattle.rules.specs.Range.{contains, byte_range, signed, signed64, low_first}
 
 -- `PLT_ENTRY_TEMPLATE`: endbr64; jmp *{relative GOT address}(%rip); nopw 0x0(%rax,%rax,1)
@@ -22,7 +23,7 @@ in_reach got plt = contains (byte_range 4 signed) (signed64 (displacement got pl
 
 -- refusals 8, 9: "PLT buffer not 16 bytes", "PLT out of reach"
 unfoldable pub plt_answer : List ℕ → ℕ → ℕ → Answer Unit
-plt_answer buffer got plt = cond (eqb (length buffer) 16) (cond (in_reach got plt) (gives tt) (refuses 9)) (refuses 8)
+plt_answer buffer got plt = cond (eqb (length buffer) 16) (cond (in_reach got plt) (Ok tt) (Err PltOutOfReach)) (Err PltEntrySize)
 
 -- the buffer afterwards: unchanged under 8, the blank template under 9, else the displacement "at bytes 6 to 9, low byte first"
 unfoldable pub plt_bytes : List ℕ → ℕ → ℕ → List ℕ

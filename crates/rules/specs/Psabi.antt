@@ -2,9 +2,10 @@
 -- rows are held against it.
 -- A calculation is a sum of the psABI's letters; two calculations are the same where each letter has the same factor.
 -- Assumes nothing.
-use Rattle.std.specs.Prelude.{Bool, true, false, cond, ◌||◌, ◌≡◌, List, [], ◌∷◌, map, ℕ, ◌+◌, ◌^◌, ◌*◌, ◌-◌, eqb, ℤ, pos, ◌+ℤ◌, ◌-ℤ◌, length}
+use Rattle.std.specs.Prelude.{Bool, true, false, cond, ◌||◌, ◌≡◌, List, [], ◌∷◌, map, ℕ, ◌+◌, ◌^◌, ◌*◌, ◌-◌, eqb, ℤ, pos, ◌+ℤ◌, ◌-ℤ◌, length, Ok, Err}
 use Prim.Native.String.{String}
-use Rattle.rules.specs.Answer.{Answer, gives, refuses}
+use Rattle.rules.specs.Answer.{Answer}
+use Rattle.refusal.specs.declared.Refusal.TheVariants.{UnknownType}
 use Rattle.rules.specs.Range.{Range, within, signed, unsigned, minus, byte_range}
 use Rattle.elf_kind.specs.declared.RelocationKind.{RelocationKind}
 use Rattle.elf_kind.specs.declared.RelocationKind.TheVariants.{Absolute, SymbolSize, Relative, SymRelGotBase, GotRelGotBase, PltRelGotBase, PltRelative, GotRelative}
@@ -222,8 +223,8 @@ psabi_facts t =
 -- the psABI's types are parted exactly: a number that it lists is answered, by a row that agrees, or left out, and never both; a number
 -- that it doesn't list is neither
 pub data Conforms (t : ℕ) : Answer Row → Type 0 where
-  agrees : {r : Row} → row_facts r ≡ psabi_facts t → Conforms t (gives r)
-  left_out : is_listed t ≡ is_left_out t → Conforms t (refuses 7)
+  agrees : {r : Row} → row_facts r ≡ psabi_facts t → Conforms t (Ok r)
+  left_out : is_listed t ≡ is_left_out t → Conforms t (Err UnknownType)
 
 abbrev pub factors_of : ℕ → List ℤ
 factors_of t = factors (psabi t).calculation

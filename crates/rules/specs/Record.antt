@@ -1,8 +1,10 @@
 -- Document 01, 'A record comes in' and the letters of 'Choosing': a record, which is the code's own struct, and what the rules ask of a flag
 -- number and of an output kind; refusals 1 to 4. Assumes nothing.
-use Rattle.std.specs.Prelude.{Bool, not, cond, ◌&&◌, ◌||◌, List, ℕ, ◌/◌, ◌%◌, eqb, leb, ltb, ℤ, length}
+use Rattle.std.specs.Prelude.{Bool, not, cond, ◌&&◌, ◌||◌, List, ℕ, ◌/◌, ◌%◌, eqb, leb, ltb, ℤ, length, Ok, Err}
 use Rattle.rules.specs.declared.Relocation.{Relocation}
-use Rattle.rules.specs.Answer.{Answer, gives, refuses}
+use Rattle.rules.specs.Answer.{Answer}
+use Rattle.refusal.specs.declared.Refusal.TheVariants.{SectionTooLong, FlagNumber, OutputKindNumber}
+use Rattle.refusal.specs.declared.Refusal.{Refusal}
 
 -- "A record has a type number .., an offset, a flag number .., an output kind, an executable yes/no, a symbol address .. and a signed addend"
 abbrev pub relocation : ℕ → ℕ → ℕ → ℕ → Bool → ℕ → ℤ → Relocation
@@ -12,11 +14,11 @@ relocation t o f k x v a =
 -- the longest section that is taken, and the refusal of a longer one
 pub record Limit : Type 0 where
   pub most : ℕ
-  pub refusal : ℕ
+  pub refusal : Refusal
 
 -- 1: "section longer than 268,435,456"
 abbrev pub link_limit : Limit
-link_limit = record { most = 268435456; refusal = 1 }
+link_limit = record { most = 268435456; refusal = SectionTooLong }
 
 abbrev pub too_long : Limit → List ℕ → Bool
 too_long l sec = ltb l.most (length sec)
@@ -32,7 +34,7 @@ abbrev pub flags_above : ℕ → Bool
 flags_above n = ltb 15 n
 
 unfoldable pub flag_number : ℕ → Answer ℕ
-flag_number n = cond (flags_above n) (refuses 3) (gives n)
+flag_number n = cond (flags_above n) (Err FlagNumber) (Ok n)
 
 -- whether the flag of a weight is among the summands
 abbrev pub has : ℕ → ℕ → Bool
@@ -66,7 +68,7 @@ abbrev pub kind_above : ℕ → Bool
 kind_above n = ltb 5 n
 
 unfoldable pub output_kind_of : ℕ → Answer ℕ
-output_kind_of n = cond (kind_above n) (refuses 4) (gives n)
+output_kind_of n = cond (kind_above n) (Err OutputKindNumber) (Ok n)
 
 -- "F: kind 0 or 2"
 abbrev pub is_f : ℕ → Bool

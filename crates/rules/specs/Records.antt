@@ -1,6 +1,7 @@
 -- Document 01's numbers in figures, its records that are not starred and not of relaxing, and card 4's numbers of document 02. Assumes nothing.
-use Rattle.std.specs.Prelude.{◌≡◌, true, false, List, [], ◌∷◌, ◌++◌, map, ℕ, zero, suc, ◌+◌, ◌-◌, ◌^◌, ℤ, pos, negsuc, length, replicate}
-use Rattle.rules.specs.Answer.{Answer, gives, refuses}
+use Rattle.std.specs.Prelude.{◌≡◌, true, false, List, [], ◌∷◌, ◌++◌, map, ℕ, zero, suc, ◌+◌, ◌-◌, ◌^◌, ℤ, pos, negsuc, length, replicate, Ok, Err}
+use Rattle.rules.specs.Answer.{Answer}
+use Rattle.refusal.specs.declared.Refusal.TheVariants.{FieldNotInside, OffsetAboveLength, PltEntrySize, SectionTooLong, UnknownType, ValueOutOfRange}
 use Rattle.rules.specs.Range.{Range, within, unchecked}
 use Rattle.rules.specs.Types.{Entry, Row, types, lookup}
 use Rattle.rules.specs.Choose.{needs_fallback}
@@ -10,8 +11,8 @@ use Rattle.rules.specs.Plt.{template, plt_answer, plt_bytes}
 abbrev range_at : ℕ → Answer Range
 range_at t = only (lookup t) where
   only : Answer Row → Answer Range
-  only (gives r) = gives r.range
-  only (refuses n) = refuses n
+  only (Ok r) = Ok r.range
+  only (Err n) = Err n
 
 -- k numbers from n on
 abbrev from : ℕ → ℕ → List ℕ
@@ -23,10 +24,10 @@ pub record TypesWorked : Type 0 where
   pub known : length types ≡ 39
   pub listed : map (λ (e : Entry). e.type) types ≡ from 0 5 ++ from 9 7 ++ from 17 1 ++ from 19 9 ++ from 29 1 ++ from 31 5 ++ from 41 11
   -- "types 2, 11 and 23 have −2,147,483,648 ≤ v < 2,147,483,648, type 10 has 0 ≤ v < 4,294,967,296"
-  pub signed32 : map range_at (2 ∷ 11 ∷ 23 ∷ []) ≡ replicate 3 (gives (within (negsuc 2147483647) (pos 2147483648)))
-  pub unsigned32 : range_at 10 ≡ gives (within (pos 0) (pos 4294967296))
+  pub signed32 : map range_at (2 ∷ 11 ∷ 23 ∷ []) ≡ replicate 3 (Ok (within (negsuc 2147483647) (pos 2147483648)))
+  pub unsigned32 : range_at 10 ≡ Ok (within (pos 0) (pos 4294967296))
   -- "Lookup 27 answers; 28 and 52: 7"
-  pub lookups : map range_at (27 ∷ 28 ∷ 52 ∷ []) ≡ gives unchecked ∷ refuses 7 ∷ refuses 7 ∷ []
+  pub lookups : map range_at (27 ∷ 28 ∷ 52 ∷ []) ≡ Ok unchecked ∷ Err UnknownType ∷ Err UnknownType ∷ []
 
 -- `needs_got_fallback` of the new types, and of one that isn't known: of 10 and 11 alone
 pub record FallbackWorked : Type 0 where
@@ -38,7 +39,7 @@ lent n = replicate n 0xa5
 
 pub record PltWorked : Type 0 where
   -- "PLT: 8, 9"
-  pub order : plt_answer (lent 15) (0x401020 + 10 + 2147483648) 0x401020 ≡ refuses 8
+  pub order : plt_answer (lent 15) (0x401020 + 10 + 2147483648) 0x401020 ≡ Err PltEntrySize
   -- under 9 it holds the blank template
   pub blank : plt_bytes (lent 16) (0x401020 + 10 + 2147483648) 0x401020 ≡ template
   -- 8 changes nothing
@@ -46,7 +47,7 @@ pub record PltWorked : Type 0 where
 
 -- a type, the bytes lent, an offset, the field's address, value and addend; sections of more than 8 bytes are too long
 abbrev fill_at : ℕ → ℕ → ℕ → ℕ → ℕ → ℤ → Answer Fill
-fill_at t n at p v a = filling (record { most = 8; refusal = 1 }) (lent n) (field t at p v a)
+fill_at t n at p v a = filling (record { most = 8; refusal = SectionTooLong }) (lent n) (field t at p v a)
 
 -- type t in four bytes, with addend 0
 abbrev fill4 : ℕ → ℕ → Answer Fill
@@ -54,28 +55,28 @@ fill4 t v = fill_at t 4 0 0 v (pos 0)
 
 -- n types that are left alone
 abbrev left : ℕ → List (Answer Fill)
-left n = replicate n (gives unfilled)
+left n = replicate n (Ok unfilled)
 
 abbrev bytes4 : ℕ → ℕ → ℕ → ℕ → Answer Fill
-bytes4 a b c d = gives (filled (a ∷ b ∷ c ∷ d ∷ []))
+bytes4 a b c d = Ok (filled (a ∷ b ∷ c ∷ d ∷ []))
 
 pub record FillWorked : Type 0 where
   -- "The order is 1, 2, 7, 16, 15": each with all that come after it
   pub order :
       fill_at 28 9 10 0 (2 ^ 64 - 1) (pos 0) ∷ fill_at 28 3 4 0 (2 ^ 64 - 1) (pos 0) ∷ fill_at 28 3 3 0 (2 ^ 64 - 1) (pos 0)
       ∷ fill_at 10 3 0 0 (2 ^ 64 - 1) (pos 0) ∷ fill_at 10 4 0 0 (2 ^ 64 - 1) (pos 0) ∷ []
-      ≡ refuses 1 ∷ refuses 2 ∷ refuses 7 ∷ refuses 16 ∷ refuses 15 ∷ []
+      ≡ Err SectionTooLong ∷ Err OffsetAboveLength ∷ Err UnknownType ∷ Err FieldNotInside ∷ Err ValueOutOfRange ∷ []
   -- "types 2, 10, 11 and 23" of the 39, by 16; the others "with no test of 16 or 15", "in an empty section too"
   pub others :
       map (λ (e : Entry). fill_at e.type 0 0 0 (2 ^ 64 - 1) (pos 0)) types
-      ≡ left 2 ++ (refuses 16 ∷ left 3) ++ (refuses 16 ∷ refuses 16 ∷ left 9) ++ (refuses 16 ∷ left 21)
+      ≡ left 2 ++ (Err FieldNotInside ∷ left 3) ++ (Err FieldNotInside ∷ Err FieldNotInside ∷ left 9) ++ (Err FieldNotInside ∷ left 21)
   -- "type 10 takes 2^32 − 1 and refuses −1; 2^63 and 2^64 − 1 are read as signed"
   pub unsigned32 :
       map (fill4 10) (0 ∷ (2 ^ 32 - 1) ∷ (2 ^ 32) ∷ (2 ^ 63) ∷ (2 ^ 64 - 1) ∷ [])
-      ≡ bytes4 0 0 0 0 ∷ bytes4 0xFF 0xFF 0xFF 0xFF ∷ refuses 15 ∷ refuses 15 ∷ refuses 15 ∷ []
+      ≡ bytes4 0 0 0 0 ∷ bytes4 0xFF 0xFF 0xFF 0xFF ∷ Err ValueOutOfRange ∷ Err ValueOutOfRange ∷ Err ValueOutOfRange ∷ []
   pub signed32 :
       map (fill4 11) ((2 ^ 31 - 1) ∷ (2 ^ 31) ∷ (2 ^ 63) ∷ (2 ^ 64 - 2 ^ 31 - 1) ∷ (2 ^ 64 - 2 ^ 31) ∷ (2 ^ 64 - 1) ∷ [])
-      ≡ bytes4 0xFF 0xFF 0xFF 0x7F ∷ refuses 15 ∷ refuses 15 ∷ refuses 15 ∷ bytes4 0 0 0 0x80 ∷ bytes4 0xFF 0xFF 0xFF 0xFF ∷ []
+      ≡ bytes4 0xFF 0xFF 0xFF 0x7F ∷ Err ValueOutOfRange ∷ Err ValueOutOfRange ∷ Err ValueOutOfRange ∷ bytes4 0 0 0 0x80 ∷ bytes4 0xFF 0xFF 0xFF 0xFF ∷ []
   -- "wrapping in the middle of the sum is no refusal"; the address counts for type 2 alone, and is given, not computed from the offset
   pub wraps :
       fill_at 10 4 0 7 (2 ^ 64 - 1) (pos 5) ∷ fill_at 2 4 0 7 3 (negsuc 3) ∷ fill_at 2 4 0 (2 ^ 64 - 1) 0 (pos 0) ∷ []
@@ -83,6 +84,6 @@ pub record FillWorked : Type 0 where
   -- "It writes four bytes, low byte first, and no others"; "up to its very end is inside"
   pub ends :
       map (λ (at : ℕ). fill_at 23 8 at 0 0x1234 (pos 0)) (3 ∷ 4 ∷ 5 ∷ [])
-      ≡ gives (filled (lent 3 ++ (0x34 ∷ 0x12 ∷ 0 ∷ 0 ∷ 0xA5 ∷ []))) ∷ gives (filled (lent 4 ++ (0x34 ∷ 0x12 ∷ 0 ∷ 0 ∷ []))) ∷ refuses 16 ∷ []
+      ≡ Ok (filled (lent 3 ++ (0x34 ∷ 0x12 ∷ 0 ∷ 0 ∷ 0xA5 ∷ []))) ∷ Ok (filled (lent 4 ++ (0x34 ∷ 0x12 ∷ 0 ∷ 0 ∷ []))) ∷ Err FieldNotInside ∷ []
   -- "A refusal writes no byte"; none "leave the section unchanged"
   pub kept : map (after_filling (lent 4)) (fill4 10 (2 ^ 64 - 1) ∷ fill4 4 0 ∷ fill4 10 0 ∷ []) ≡ lent 4 ∷ lent 4 ∷ replicate 4 0 ∷ []

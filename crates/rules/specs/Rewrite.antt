@@ -1,7 +1,8 @@
 -- Document 01, 'Rewriting': the new bytes of each kind (those of `apply`), rewriting alone, relaxing, and what Filled means. Assumes nothing.
-use Rattle.std.specs.Prelude.{◌≡◌, Bool, cond, List, [], ◌∷◌, ◌++◌, ℕ, ◌+◌, ◌-◌, ◌*◌, ◌/◌, ◌%◌, ◌^◌, ◌≤◌, ◌<◌, max, T, eqb, length, get_or, ℤ, pos, negsuc}
+use Rattle.std.specs.Prelude.{◌≡◌, Bool, cond, List, [], ◌∷◌, ◌++◌, ℕ, ◌+◌, ◌-◌, ◌*◌, ◌/◌, ◌%◌, ◌^◌, ◌≤◌, ◌<◌, max, T, eqb, length, get_or, ℤ, pos, negsuc, Ok, Err}
 use Rattle.std.proofs.lemmas.List.Edits.{sets}
-use Rattle.rules.specs.Answer.{Answer, gives, refuses}
+use Rattle.rules.specs.Answer.{Answer}
+use Rattle.refusal.specs.declared.Refusal.TheVariants.{InstructionOffset, OffsetAboveLength, WindowNotInside}
 use Rattle.rules.specs.Range.{bit, signed64}
 use Rattle.x86_64_kind.specs.declared.RelaxationKind.{RelaxationKind}
 use Rattle.x86_64_kind.specs.declared.RelaxationKind.TheVariants.{MovIndirectToLea, MovIndirectToAbsolute, RexMovIndirectToAbsolute, RexAddIndirectToAbsolute}
@@ -123,9 +124,9 @@ rewrite k sec off a =
 -- "Rewriting alone: 1, 2, 5, 6"
 unfoldable pub rewriting : Limit → RelaxationKind → List ℕ → ℕ → ℤ → Answer Rewritten
 rewriting l k sec off a =
-    cond (too_long l sec) (refuses l.refusal)
-    (cond (past sec off) (refuses 2)
-    (cond (allowed k) (cond (inside (shape_of k).window (length sec) off) (gives (rewrite k sec off a)) (refuses 6)) (refuses 5)))
+    cond (too_long l sec) (Err l.refusal)
+    (cond (past sec off) (Err OffsetAboveLength)
+    (cond (allowed k) (cond (inside (shape_of k).window (length sec) off) (Ok (rewrite k sec off a)) (Err WindowNotInside)) (Err InstructionOffset)))
 
 -- what relaxing and a pass claim of a section, for a kind and its new type: the kind's own window
 unfoldable pub claims : RelaxationKind → ℕ → Window
@@ -138,10 +139,10 @@ pub data Relaxed : Type 0 where
 
 -- "6 only where a kind was chosen"
 unfoldable pub relax_chosen : List ℕ → Relocation → Answer Choice → Answer Relaxed
-relax_chosen sec r (refuses n) = refuses n
-relax_chosen sec r (gives none) = gives unrelaxed
-relax_chosen sec r (gives (chosen k t m)) =
-    cond (inside (claims k t) (length sec) r.offset) (gives (relaxed k t m (rewrite k sec r.offset r.addend))) (refuses 6)
+relax_chosen sec r (Err n) = Err n
+relax_chosen sec r (Ok none) = Ok unrelaxed
+relax_chosen sec r (Ok (chosen k t m)) =
+    cond (inside (claims k t) (length sec) r.offset) (Ok (relaxed k t m (rewrite k sec r.offset r.addend))) (Err WindowNotInside)
 
 -- "Relaxing: 1, 2, 3, 4, choice, 6"
 unfoldable pub relaxing : Limit → List ℕ → Relocation → Answer Relaxed
@@ -149,13 +150,13 @@ relaxing l sec r = relax_chosen sec r (choosing l sec r)
 
 -- the section afterwards: "A refusal gives its number alone", and changes nothing
 unfoldable pub after_rewriting : List ℕ → Answer Rewritten → List ℕ
-after_rewriting sec (gives r) = r.bytes
-after_rewriting sec (refuses n) = sec
+after_rewriting sec (Ok r) = r.bytes
+after_rewriting sec (Err n) = sec
 
 unfoldable pub after_relaxing : List ℕ → Answer Relaxed → List ℕ
-after_relaxing sec (gives (relaxed k t m r)) = r.bytes
-after_relaxing sec (gives unrelaxed) = sec
-after_relaxing sec (refuses n) = sec
+after_relaxing sec (Ok (relaxed k t m r)) = r.bytes
+after_relaxing sec (Ok unrelaxed) = sec
+after_relaxing sec (Err n) = sec
 
 -- ---- "Filled means": a predicate of any section, filled by whatever program
 

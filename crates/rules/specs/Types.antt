@@ -1,9 +1,10 @@
 -- Document 01, 'Below: types': the 39 relocation types that `relocation_from_raw` knows, and the dynamic types. Assumes nothing.
-use Rattle.std.specs.Prelude.{cond, List, [], ◌∷◌, ◌++◌, ℕ, ◌^◌, eqb, get_or, pos}
+use Rattle.std.specs.Prelude.{cond, List, [], ◌∷◌, ◌++◌, ℕ, ◌^◌, eqb, get_or, pos, Ok, Err}
 use Rattle.elf_kind.specs.declared.RelocationKind.{RelocationKind}
 use Rattle.elf_kind.specs.declared.RelocationKind.TheVariants.{Absolute, SymbolSize, Relative, SymRelGotBase, GotRelGotBase, PltRelGotBase, PltRelative, GotRelative}
 use Rattle.elf_kind.specs.declared.RelocationKind.TheVariants.{TlsGd, TlsLd, DtpOff, GotTpOff, TpOff, TlsDesc, TlsDescCall, None}
-use Rattle.rules.specs.Answer.{Answer, gives, refuses}
+use Rattle.rules.specs.Answer.{Answer}
+use Rattle.refusal.specs.declared.Refusal.TheVariants.{UnknownType}
 use Rattle.rules.specs.Range.{Range, within, signed, unsigned, minus, byte_range}
 
 -- a row of the lookup; the rest of a `RelocationKindInfo` is the same in every row (`elf`'s `info_from`)
@@ -77,8 +78,8 @@ types = earlier_types ++ later_types
 
 -- the row of a number, or refusal 7: "type not among the 39 (lookup only)"
 abbrev pub find : List Entry → ℕ → Answer Row
-find [] t = refuses 7
-find (e ∷ es) t = cond (eqb t e.type) (gives e.info) (find es t)
+find [] t = Err UnknownType
+find (e ∷ es) t = cond (eqb t e.type) (Ok e.info) (find es t)
 
 unfoldable pub lookup : ℕ → Answer Row
 lookup t = find types t

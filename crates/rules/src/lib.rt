@@ -11,10 +11,11 @@ ghost use Rattle.rules.specs.Starred.{StarredHold};
 
 // "A record has a type number .., an offset, a flag number .., an output kind, an executable yes/no, a symbol address .. and
 // a signed addend"
-#[derive(Clone, Copy)]
+#[derive(Clone, Copy, Debug, PartialEq, Eq, Hash)]
 pub struct Relocation {
     pub r_type: u32,
     pub offset: u64,
+    // Kept: numbers, since a record may hold any, and those that mean nothing are refused (3, 4).
     pub flags: u8,
     pub output_kind: u8,
     pub executable: bool,
@@ -24,7 +25,7 @@ pub struct Relocation {
 
 // "the new type, the field's offset and address, symbol value and addend": a field to fill. For type 23 the value is the
 // thread-pointer offset. The address is given, and not computed from the offset.
-#[derive(Clone, Copy)]
+#[derive(Clone, Copy, Debug, PartialEq, Eq, Hash)]
 pub struct Field {
     pub r_type: u32,
     pub offset: u64,

@@ -1,13 +1,14 @@
 -- What a step does to the figures: at each place its share, wrapping; to the first 21 together a record, or nothing under a refusal.
 -- Assumes nothing.
-use Rattle.std.proofs.Common.{◌≡◌, ℕ, zero, suc, ◌+◌, ◌%◌, ◌^◌, ◌<◌, ◌≤◌, Bool, true, false, cond, eqb, List, [], ◌∷◌, length, get_or, take, sym, refl, ◌∙◌, subst, le_refl, le_of_suc-le-suc, not-suc-le-zero, arith, length-set, get_or-set_other, get_or-set_same, eqb-true}
+use Rattle.std.proofs.Common.{◌≡◌, ℕ, zero, suc, ◌+◌, ◌%◌, ◌^◌, ◌<◌, ◌≤◌, Bool, true, false, cond, eqb, List, [], ◌∷◌, length, get_or, take, sym, refl, ◌∙◌, subst, le_refl, le_of_suc-le-suc, not-suc-le-zero, arith, length-set, get_or-set_other, get_or-set_same, eqb-true, Some, None, Ok, Err}
 use lib.Seq.{take-set-le}
 use borrow.Author.Tests.{eqb-false}
 use Rattle.x86_64_kind.specs.declared.RelaxationKind.{RelaxationKind}
 use Rattle.x86_64_kind.specs.declared.RelaxationKind.TheVariants as kind
 use Rattle.x86_64_kind.specs.Kinds.{shape, shape_of}
+use Rattle.rules.specs.Answer.{Answer}
 use Rattle.pass.specs.declared.Step.{Step}
-use Rattle.pass.specs.declared.Step.TheVariants.{Nothing, Done, Skipped, Refused}
+use Rattle.pass.specs.declared.Step.TheVariants.{Took, Skipped}
 use Rattle.tally.specs.Tally.{plus, counted, tallied, sum, shared, share, accepted}
 
 -- the kinds' numbers are those of the first figures
@@ -55,12 +56,12 @@ get_or-counted t i l h k n =
     let e = get_or-plus t i l h k 1 in
     get_or-plus (plus k 1 t) i (subst (λ (n : ℕ). i < n) (sym (length-set t k _)) l) (below _ _ e) 21 n ∙ wraps _ _ _ _ e
 
-pub get_or-tallied : (t : List ℕ) (s : Step) (i : ℕ) → i < length t → get_or t i 0 < 2 ^ 64 → get_or (tallied t s) i 0 ≡ (get_or t i 0 + share s i) % 2 ^ 64
+pub get_or-tallied : (t : List ℕ) (s : Answer Step) (i : ℕ) → i < length t → get_or t i 0 < 2 ^ 64 → get_or (tallied t s) i 0 ≡ (get_or t i 0 + share s i) % 2 ^ 64
 unfolding tallied share
-get_or-tallied t (Done x m) i l h = get_or-counted t i l h _ _
-get_or-tallied t Nothing i l h = get_or-counted t i l h _ _
-get_or-tallied t Skipped i l h = get_or-counted t i l h _ _
-get_or-tallied t (Refused n) i l h = omega arith
+get_or-tallied t (Ok (Took (Some x))) i l h = get_or-counted t i l h _ _
+get_or-tallied t (Ok (Took None)) i l h = get_or-counted t i l h _ _
+get_or-tallied t (Ok Skipped) i l h = get_or-counted t i l h _ _
+get_or-tallied t (Err n) i l h = omega arith
 
 -- ---- the first 21 together
 
@@ -77,21 +78,21 @@ sum-plus (suc n) (suc j) (x ∷ xs) h l = there x _ (sum (take n xs)) (sum-plus 
 sum-counted : (k n : ℕ) (t : List ℕ) → k < 21 → 21 ≤ length t → sum (take 21 (counted k n t)) % 2 ^ 64 ≡ (sum (take 21 t) + 1) % 2 ^ 64
 sum-counted k n t low l = rw (take-set-le 21 (plus k 1 t) 21 _ (le_refl 21)) (sum-plus 21 k t low l)
 
-pub sum-tallied : (t : List ℕ) (s : Step) → 21 ≤ length t → sum (take 21 (tallied t s)) % 2 ^ 64 ≡ (sum (take 21 t) + accepted s) % 2 ^ 64
+pub sum-tallied : (t : List ℕ) (s : Answer Step) → 21 ≤ length t → sum (take 21 (tallied t s)) % 2 ^ 64 ≡ (sum (take 21 t) + accepted s) % 2 ^ 64
 unfolding tallied
-sum-tallied t (Done x m) l = sum-counted (shape_of x.kind).number _ t (low x.kind) l
-sum-tallied t Nothing l = sum-counted 19 0 t (omega arith) l
-sum-tallied t Skipped l = sum-counted 20 0 t (omega arith) l
-sum-tallied t (Refused n) l = omega arith
+sum-tallied t (Ok (Took (Some x))) l = sum-counted (shape_of x.relaxation.kind).number _ t (low x.relaxation.kind) l
+sum-tallied t (Ok (Took None)) l = sum-counted 19 0 t (omega arith) l
+sum-tallied t (Ok Skipped) l = sum-counted 20 0 t (omega arith) l
+sum-tallied t (Err n) l = omega arith
 
 -- ---- their count stays
 
 length-counted : (i n : ℕ) (t : List ℕ) → length (counted i n t) ≡ length t
 length-counted i n t = length-set (plus i 1 t) 21 _ ∙ length-set t i _
 
-pub length-tallied : (t : List ℕ) (s : Step) → length (tallied t s) ≡ length t
+pub length-tallied : (t : List ℕ) (s : Answer Step) → length (tallied t s) ≡ length t
 unfolding tallied
-length-tallied t (Done x m) = length-counted _ _ t
-length-tallied t Nothing = length-counted _ _ t
-length-tallied t Skipped = length-counted _ _ t
-length-tallied t (Refused n) = refl
+length-tallied t (Ok (Took (Some x))) = length-counted _ _ t
+length-tallied t (Ok (Took None)) = length-counted _ _ t
+length-tallied t (Ok Skipped) = length-counted _ _ t
+length-tallied t (Err n) = refl

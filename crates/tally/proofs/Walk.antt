@@ -3,6 +3,7 @@
 use Rattle.std.proofs.Common.{◌≡◌, ℕ, ◌+◌, ◌%◌, ◌^◌, ◌<◌, List, [], ◌∷◌, map, length, get_or, take, sym, refl, ap, ◌∙◌, subst, zero-add, arith}
 use lib.ListN.{get_or-replicate}
 use Rattle.rules.specs.declared.Relocation.{Relocation}
+use Rattle.rules.specs.Answer.{Answer}
 use Rattle.pass.specs.declared.Step.{Step}
 use Rattle.pass.specs.Answers.{step_of}
 use Rattle.pass.specs.Walk.{answer, walk, answers}
@@ -35,7 +36,7 @@ beside : (t : Tallied) (rs : List Relocation) → ((after t (map takes rs)).walk
 beside t [] = (refl, refl)
 beside t (r ∷ rs) =
     let h = beside (acted t (takes r)) rs in
-    (h.0, ap (λ (l : List Step). step_of (answer t.walk r) ∷ l) h.1)
+    (h.0, ap (λ (l : List (Answer Step)). step_of (answer t.walk r) ∷ l) h.1)
 
 size : (t : Tallied) (acts : List Act) → length (after t acts).figures ≡ length t.figures
 size t [] = refl

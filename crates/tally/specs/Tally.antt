@@ -1,11 +1,11 @@
 -- Document 02, card 1: "a tally of relaxed records for each of the 19 kinds, of none, of skipped, and of bytes inside rewritten windows", in
 -- 22 figures. Assumes nothing.
-use Rattle.std.specs.Prelude.{ℕ, ◌+◌, ◌%◌, ◌^◌, cond, List, [], ◌∷◌, map, replicate, ◌==◌, slice_index, slice_set}
-use Rattle.rules.specs.Answer.{flag}
+use Rattle.std.specs.Prelude.{ℕ, ◌+◌, ◌%◌, ◌^◌, cond, List, [], ◌∷◌, map, replicate, ◌==◌, slice_index, slice_set, Some, None, Ok, Err}
+use Rattle.rules.specs.Answer.{Answer, flag}
 use Rattle.x86_64_kind.specs.Kinds.{shape_of}
 use Rattle.rules.specs.Rewrite.{claims}
 use Rattle.pass.specs.declared.Step.{Step}
-use Rattle.pass.specs.declared.Step.TheVariants.{Nothing, Done, Skipped, Refused}
+use Rattle.pass.specs.declared.Step.TheVariants.{Took, Skipped}
 
 -- ---- the figures
 
@@ -34,11 +34,11 @@ abbrev pub counted : ℕ → ℕ → List ℕ → List ℕ
 counted i n t = plus bytes_at n (plus i 1 t)
 
 -- the figures after a step: a record more of its kind, of none or of skipped; "A refused step adds nothing"
-unfoldable pub tallied : List ℕ → Step → List ℕ
-tallied t (Done x m) = counted (shape_of x.kind).number (claims x.kind x.new_type).size t
-tallied t Nothing = counted none_at 0 t
-tallied t Skipped = counted skipped_at 0 t
-tallied t (Refused n) = t
+unfoldable pub tallied : List ℕ → Answer Step → List ℕ
+tallied t (Ok (Took (Some x))) = counted (shape_of x.relaxation.kind).number (claims x.relaxation.kind x.relaxation.new_type).size t
+tallied t (Ok (Took None)) = counted none_at 0 t
+tallied t (Ok Skipped) = counted skipped_at 0 t
+tallied t (Err n) = t
 
 -- ---- a list of steps
 
@@ -51,19 +51,17 @@ abbrev pub shared : ℕ → ℕ → ℕ → ℕ
 shared k n i = flag (i == k) + cond (i == bytes_at) n 0
 
 -- a step's
-unfoldable pub share : Step → ℕ → ℕ
-share (Done x m) i = shared (shape_of x.kind).number (claims x.kind x.new_type).size i
-share Nothing i = shared none_at 0 i
-share Skipped i = shared skipped_at 0 i
-share (Refused n) i = 0
+unfoldable pub share : Answer Step → ℕ → ℕ
+share (Ok (Took (Some x))) i = shared (shape_of x.relaxation.kind).number (claims x.relaxation.kind x.relaxation.new_type).size i
+share (Ok (Took None)) i = shared none_at 0 i
+share (Ok Skipped) i = shared skipped_at 0 i
+share (Err n) i = 0
 
 -- "every figure is defined from the list of steps taken so far .. modulo 2^64": the sum of their shares
-abbrev pub figure : List Step → ℕ → ℕ
+abbrev pub figure : List (Answer Step) → ℕ → ℕ
 figure ss i = sum (map (λ s. share s i) ss) % 2 ^ 64
 
 -- "the accepted records"
-abbrev pub accepted : Step → ℕ
-accepted (Done x m) = 1
-accepted Nothing = 1
-accepted Skipped = 1
-accepted (Refused n) = 0
+abbrev pub accepted : Answer Step → ℕ
+accepted (Ok s) = 1
+accepted (Err n) = 0

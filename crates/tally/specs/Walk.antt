@@ -1,6 +1,7 @@
 -- A walk with its tally: records and endings in any order, and what holds of the figures from any pass over any section. Assumes nothing.
 use Rattle.std.specs.Prelude.{◌≡◌, ℕ, ◌+◌, ◌%◌, ◌^◌, ◌<◌, List, [], ◌∷◌, map, length, take, slice_index}
 use Rattle.rules.specs.declared.Relocation.{Relocation}
+use Rattle.rules.specs.Answer.{Answer}
 use Rattle.pass.specs.declared.Step.{Step}
 use Rattle.pass.specs.Pass.{fresh_pass, ending, ended_pass}
 use Rattle.pass.specs.Answers.{step_of}
@@ -34,7 +35,7 @@ after t [] = t
 after t (a ∷ acts) = after (acted t a) acts
 
 -- "the list of steps taken": their answers
-abbrev pub steps : Walk → List Act → List Step
+abbrev pub steps : Walk → List Act → List (Answer Step)
 steps w [] = []
 steps w (takes r ∷ acts) = step_of (answer w r) ∷ steps (stepped w r) acts
 steps w (ends ∷ acts) = steps (ended_walk w) acts

@@ -1,10 +1,12 @@
 -- A worked walk in which every kind that is chosen is relaxed, a step ends in every other way but 1, and endings are asked. Assumes nothing.
-use Rattle.std.specs.Prelude.{◌≡◌, ℕ, suc, ◌+◌, ◌-◌, ◌^◌, true, false, List, [], ◌∷◌, map, replicate, pos, negsuc}
+use Rattle.std.specs.Prelude.{◌≡◌, ℕ, suc, ◌+◌, ◌-◌, ◌^◌, true, false, List, [], ◌∷◌, map, replicate, pos, negsuc, Some, None, Ok, Err}
+use Rattle.rules.specs.Answer.{Answer}
 use Rattle.rules.specs.Record.{relocation}
+use Rattle.refusal.specs.Numbers.{number_of}
 use Rattle.x86_64_kind.specs.declared.RelaxationKind.{RelaxationKind}
 use Rattle.x86_64_kind.specs.Kinds.{shape_of, kinds}
 use Rattle.pass.specs.declared.Step.{Step}
-use Rattle.pass.specs.declared.Step.TheVariants.{Nothing, Done, Skipped, Refused}
+use Rattle.pass.specs.declared.Step.TheVariants.{Took, Skipped}
 use Rattle.tally.specs.Tally.{none_at, skipped_at, bytes_at, share}
 use Rattle.tally.specs.Walk.{Tallied, fresh, Act, takes, ends, after, steps}
 
@@ -91,16 +93,17 @@ acts =
 abbrev full : Tallied
 full = record { walk = (fresh section).walk; figures = replicate 22 (2 ^ 64 - 1) }
 
--- what a step came to: its kind's number, none, skipped, or 100 and its refusal
-abbrev told : Step → ℕ
-told (Done x m) = (shape_of x.kind).number
-told Nothing = none_at
-told Skipped = skipped_at
-told (Refused n) = 100 + n
+-- what a step came to: its kind's number, none, skipped, or 100 and its refusal's number
+abbrev told : Answer Step → ℕ
+told (Ok (Took (Some x))) = (shape_of x.relaxation.kind).number
+told (Ok (Took None)) = none_at
+told (Ok Skipped) = skipped_at
+told (Err n) = 100 + number_of n
 
 -- a record relaxed by a kind
-abbrev relaxed_by : RelaxationKind → Step
-relaxed_by k = Done (record { kind = k; new_type = 2; mandatory = false }) (record { offset = 0; addend = pos 0 })
+abbrev relaxed_by : RelaxationKind → Answer Step
+relaxed_by k =
+    Ok (Took (Some (record { relaxation = record { kind = k; new_type = 2; mandatory = false }; moved = record { offset = 0; addend = pos 0 } })))
 
 -- the share of each kind at its own place, counted from one on
 abbrev own : ℕ → List RelaxationKind → List ℕ

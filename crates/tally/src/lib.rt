@@ -9,8 +9,10 @@ ghost use Rattle.tally.specs.Walk.{Tallies};
 ghost use Rattle.tally.specs.Worked.{TallyWorked};
 
 use pass::Step;
+use refusal::Refusal;
 
 // Places of the figures: those of the kinds are 0 to 18.
+// Kept: numbers, since the figures are 22 words of the caller's.
 const NO_OP: usize = 9;
 
 const NONE: usize = 19;
@@ -20,7 +22,7 @@ const SKIPPED: usize = 20;
 const BYTES: usize = 21;
 
 #[repr(C)]
-#[derive(Clone, Copy)]
+#[derive(Clone, Copy, Debug, PartialEq, Eq, Hash)]
 pub struct Tally {
     pub figures: [u64; 22],
 }
@@ -40,18 +42,18 @@ impl Tally {
 
 // Counts a step. A refused one changes no figure.
 #[tactic(auto, unfolding(crate::specs::Tally::tallied))]
-pub fn count(figures: &mut [u64; 22], step: Step)
+pub fn count(figures: &mut [u64; 22], step: Result<Step, Refusal>)
     ensures { figures.new ≡ tallied figures.old step }
 {
     match step {
-        Step::Nothing => add(figures, NONE, 0),
-        Step::Done(relaxation, _) => {
-            let kind = relaxation.kind;
-            let window = relaxation.claim();
+        Ok(Step::Took(None)) => add(figures, NONE, 0),
+        Ok(Step::Took(Some(relaxed))) => {
+            let kind = relaxed.relaxation.kind;
+            let window = relaxed.relaxation.claim();
             add(figures, kind.number() as usize, window.size);
         }
-        Step::Skipped => add(figures, SKIPPED, 0),
-        Step::Refused(_) => {}
+        Ok(Step::Skipped) => add(figures, SKIPPED, 0),
+        Err(_) => {}
     }
 }
 
@@ -74,6 +76,6 @@ fn add(figures: &mut [u64; 22], place: usize, bytes: u64)
     requires { place < 21 }
     ensures { figures.new ≡ counted place bytes figures.old }
 {
-    figures[place] = std::num::wrapping_add_u64(figures[place], 1);
-    figures[BYTES] = std::num::wrapping_add_u64(figures[BYTES], bytes);
+    figures[place] = figures[place].wrapping_add(1);
+    figures[BYTES] = figures[BYTES].wrapping_add(bytes);
 }

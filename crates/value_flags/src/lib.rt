@@ -2,9 +2,11 @@
 // The Rust's bits are others (docs/DIFFERENCES.md).
 #![tactic(auto)]
 
-ghost use Rattle.std.specs.Prelude.{◌≡◌, not};
-ghost use Rattle.rules.specs.Record.{flag_number, is_n, absolute, dynamic, ifunc, is_k};
-ghost use Rattle.value_flags.specs.Flags.{flags_answer};
+ghost use Rattle.std.specs.Prelude.{◌≡◌, ◌<◌, not};
+ghost use Rattle.rules.specs.Record.{has, is_n, absolute, dynamic, ifunc, is_k};
+ghost use Rattle.value_flags.specs.Flags.{Read};
+
+use refusal::Refusal;
 
 // 01: "1 non-interposable, 2 absolute, 4 dynamic, 8 ifunc, summed".
 const NON_INTERPOSABLE: u8 = 1;
@@ -15,39 +17,45 @@ const DYNAMIC: u8 = 4;
 
 const IFUNC: u8 = 8;
 
-#[derive(Clone, Copy)]
+#[derive(Clone, Copy, Debug, PartialEq, Eq, Hash)]
 pub struct ValueFlags {
     pub bits: u8,
 }
 
-#[derive(Clone, Copy)]
-pub enum ValueFlagsFound {
-    Is(ValueFlags),
-    Refused(u8),
+// The flags of a number of document 01, or refusal 3.
+impl TryFrom<u8> for ValueFlags {
+    type Error = Refusal;
+
+    ghost try_from_gives = { Read };
+
+    #[tactic(auto, unfolding(rules::specs::Record::flag_number))]
+    fn try_from(number: u8) -> Result<ValueFlags, Refusal> {
+        if 15 < number {
+            return Err(Refusal::FlagNumber);
+        }
+        Ok(ValueFlags { bits: number })
+    }
 }
 
 impl ValueFlags {
-    // The flags of a number of document 01, or refusal 3.
-    #[tactic(auto, unfolding(rules::specs::Record::flag_number))]
-    pub fn from_number(number: u8) -> ValueFlagsFound
-        ensures { flags_answer result ≡ flag_number number }
+    // Whether the flag of a weight is among the summands.
+    fn contains(self, weight: u8) -> bool
+        requires { 0 < weight }
+        ensures { result ≡ has weight self.bits }
     {
-        if 15 < number {
-            return ValueFlagsFound::Refused(3);
-        }
-        ValueFlagsFound::Is(ValueFlags { bits: number })
+        self.bits / weight % 2 == 1
     }
 
     pub fn is_dynamic(self) -> bool
         ensures { result ≡ dynamic self.bits }
     {
-        self.bits / DYNAMIC % 2 == 1
+        self.contains(DYNAMIC)
     }
 
     pub fn is_ifunc(self) -> bool
         ensures { result ≡ ifunc self.bits }
     {
-        self.bits / IFUNC % 2 == 1
+        self.contains(IFUNC)
     }
 
     // K: the address is known at link time, and it is an address.
@@ -60,12 +68,12 @@ impl ValueFlags {
     pub fn is_absolute(self) -> bool
         ensures { result ≡ absolute self.bits }
     {
-        self.bits / ABSOLUTE % 2 == 1
+        self.contains(ABSOLUTE)
     }
 
     pub fn is_interposable(self) -> bool
         ensures { result ≡ not (is_n self.bits) }
     {
-        !(self.bits / NON_INTERPOSABLE % 2 == 1)
+        !self.contains(NON_INTERPOSABLE)
     }
 }

@@ -1,1 +1,1 @@
-pub mod Attempts
+pub mod Applied

@@ -1,30 +1,24 @@
 // x86_64.rs: RelaxationKind::apply.
 #![tactic(auto)]
 
-ghost use Rattle.std.specs.Prelude.{◌≡◌, cond, [], ◌∷◌, ◌+◌, ◌-◌, ◌/◌, ◌%◌, ◌≤◌, ◌<◌, pos, length, get_or};
+ghost use Rattle.std.specs.Prelude.{◌≡◌, cond, [], ◌∷◌, ◌+◌, ◌-◌, ◌/◌, ◌%◌, ◌≤◌, ◌<◌, length, get_or};
 ghost use Rattle.std.proofs.lemmas.List.Edits.{sets};
-ghost use Rattle.x86_64_kind.specs.Kinds.{begin, shape_of};
-ghost use Rattle.x86_64_kind.specs.declared.RelaxationKind.TheVariants.{MovIndirectToAbsolute, RexAddIndirectToAbsolute, RexAddIndirectToLea};
+ghost use Rattle.x86_64_kind.specs.Kinds.{begin, inside, shape_of};
+ghost use Rattle.x86_64_kind.specs.declared.RelaxationKind.TheVariants.{RexAddIndirectToLea};
 ghost use Rattle.rules.specs.Record.{link_limit};
 ghost use Rattle.rules.specs.Rewrite.{moved, rex_copied, evex_moved, direct, based};
 ghost use Rattle.rules.specs.Rewrite.{to_absolute, evex_to_absolute, rewritten, rewriting, after_rewriting};
 ghost use Rattle.rules.specs.Meaning.{SameMeaning};
-ghost use Rattle.x86_64_apply.specs.declared.Applied.TheVariants.{Done};
-ghost use Rattle.x86_64_apply.specs.Apply.{applied_of, Ready, attempted};
+ghost use Rattle.x86_64_apply.specs.Apply.{applied_of, moved_by};
 
+use refusal::Refusal;
 use x86_64_kind::{RelaxationKind, Shape};
 
 // Where the field lies now, and its addend.
-#[derive(Clone, Copy)]
+#[derive(Clone, Copy, Debug, PartialEq, Eq, Hash)]
 pub struct Moved {
     pub offset: u64,
     pub addend: i64,
-}
-
-#[derive(Clone, Copy)]
-pub enum Applied {
-    Done(Moved),
-    Refused(u8),
 }
 
 // Rewrites the bytes of one instruction. Refusals 1, 2, 5, 6, which change nothing.
@@ -34,330 +28,231 @@ pub fn apply(
     section_bytes: &mut [u8],
     offset_in_section: u64,
     addend: i64,
-) -> Applied
+) -> Result<Moved, Refusal>
     ensures value { result ≡ applied_of (rewriting link_limit kind section_bytes.old offset_in_section addend) }
     ensures section_bytes_after { section_bytes.new ≡ after_rewriting section_bytes.old (rewriting link_limit kind section_bytes.old offset_in_section addend) }
     ensures same_meaning { SameMeaning section_bytes.old }
 {
     let len = section_bytes.len() as u64;
     if rules::section_limit() < section_bytes.len() {
-        return Applied::Refused(1);
+        return Err(Refusal::SectionTooLong);
     }
     if len < offset_in_section {
-        return Applied::Refused(2);
+        return Err(Refusal::OffsetAboveLength);
     }
-    let allowed = kind.is_allowed();
-    if allowed {
-        return rewrite(kind, section_bytes, offset_in_section, addend);
+    if !kind.is_allowed() {
+        return Err(Refusal::InstructionOffset);
     }
-    Applied::Refused(5)
+    let field = Field {
+        len,
+        offset: offset_in_section,
+        addend,
+    };
+    rewrite(kind, section_bytes, field)
 }
 
-// By one match over the kinds as in the Rust. A kind is written out where its shape is asked for, so that the
-// compiler knows the window in each arm.
-fn rewrite(kind: RelaxationKind, section_bytes: &mut [u8], offset: u64, addend: i64) -> Applied
-    requires { (offset ≤ length section_bytes.old) × (length section_bytes.old ≤ link_limit.most) }
-    ensures value { result ≡ applied_of (attempted (shape_of kind) (rewritten kind section_bytes.old offset) section_bytes.old offset addend) }
-    ensures section_bytes_after { section_bytes.new ≡ after_rewriting section_bytes.old (attempted (shape_of kind) (rewritten kind section_bytes.old offset) section_bytes.old offset addend) }
+// Where the field lies in a section of a length, and its addend.
+#[derive(Clone, Copy, Debug)]
+struct Field {
+    len: u64,
+    offset: u64,
+    addend: i64,
+    ghost inside: { offset ≤ len },
+    ghost short: { len ≤ link_limit.most },
+}
+
+impl Field {
+    // Where the field lies after rewriting, and its addend; refusal 6 where the window doesn't lie inside.
+    fn moved(self, shape: Shape) -> Result<Moved, Refusal>
+        requires { shape.field ≤ 18 }
+        ensures { result ≡ moved_by shape self.len self.offset self.addend }
+    {
+        if !shape.window.is_inside(self.len, self.offset) {
+            return Err(Refusal::WindowNotInside);
+        }
+        Ok(Moved {
+            offset: self.offset - shape.window.back + shape.field,
+            addend: if shape.clears { 0 } else { self.addend },
+        })
+    }
+
+    // A fixed byte string in place of the window.
+    fn replace(self, shape: Shape, section_bytes: &mut [u8], fixed: &[u8]) -> Result<Moved, Refusal>
+        requires lent { length section_bytes.old ≡ self.len }
+        requires near { shape.field ≤ 18 }
+        requires whole { length fixed.now ≡ shape.window.size }
+        ensures value { result ≡ moved_by shape self.len self.offset self.addend }
+        ensures section_bytes_after { section_bytes.new ≡ cond (inside shape.window self.len self.offset) (sets section_bytes.old (begin shape.window self.offset) fixed.now) section_bytes.old }
+    {
+        let moved = self.moved(shape)?;
+        write(
+            section_bytes,
+            (self.offset - shape.window.back) as usize,
+            fixed,
+        );
+        Ok(moved)
+    }
+}
+
+// By one match over the kinds as in the Rust.
+// Kept: a kind is written out where its shape is asked for, so that the compiler knows the window in each arm; one test
+// ahead of the match, by `kind.shape()`, took 27 instructions a call more.
+fn rewrite(kind: RelaxationKind, section_bytes: &mut [u8], field: Field) -> Result<Moved, Refusal>
+    requires { length section_bytes.old ≡ field.len }
+    ensures value { result ≡ moved_by (shape_of kind) field.len field.offset field.addend }
+    ensures section_bytes_after { section_bytes.new ≡ cond (inside (shape_of kind).window field.len field.offset) (rewritten kind section_bytes.old field.offset) section_bytes.old }
 {
+    let at = field.offset as usize;
     match kind {
         // Since the value is an address, a PC-relative mov becomes a PC-relative lea.
-        RelaxationKind::MovIndirectToLea => replace(
+        RelaxationKind::MovIndirectToLea => field.replace(
             RelaxationKind::MovIndirectToLea.shape(),
             section_bytes,
-            offset,
-            addend,
             b"\x8d",
         ),
-        RelaxationKind::MovIndirectToAbsolute => mov_to_absolute(
-            RelaxationKind::MovIndirectToAbsolute.shape(),
-            section_bytes,
-            offset,
-            addend,
-        ),
-        RelaxationKind::RexMovIndirectToAbsolute(n) => to_absolute(
-            RelaxationKind::RexMovIndirectToAbsolute(3).shape(),
-            section_bytes,
-            offset,
-            addend,
-            n,
-            0xc7,
-            0,
-        ),
-        RelaxationKind::RexAddIndirectToAbsolute(n) => {
-            if n == 6 {
-                return evex_add_to_absolute(
-                    RelaxationKind::RexAddIndirectToAbsolute(6).shape(),
-                    section_bytes,
-                    offset,
-                    addend,
-                );
-            }
-            to_absolute(
-                RelaxationKind::RexAddIndirectToAbsolute(3).shape(),
-                section_bytes,
-                offset,
-                addend,
-                n,
-                0x81,
-                0,
-            )
+        RelaxationKind::MovIndirectToAbsolute => {
+            let moved = field.moved(RelaxationKind::MovIndirectToAbsolute.shape())?;
+            set_register_form(section_bytes, at, MOV);
+            Ok(moved)
         }
-        RelaxationKind::RexAddIndirectToLea(_) => add_to_lea(
-            RelaxationKind::RexAddIndirectToLea(3).shape(),
-            section_bytes,
-            offset,
-            addend,
-        ),
-        RelaxationKind::RexSubIndirectToAbsolute(n) => to_absolute(
-            RelaxationKind::RexSubIndirectToAbsolute(3).shape(),
-            section_bytes,
-            offset,
-            addend,
-            n,
-            0x81,
-            0x28,
-        ),
-        RelaxationKind::RexCmpIndirectToAbsolute(n) => to_absolute(
-            RelaxationKind::RexCmpIndirectToAbsolute(3).shape(),
-            section_bytes,
-            offset,
-            addend,
-            n,
-            0x81,
-            0x38,
-        ),
-        RelaxationKind::CallIndirectToRelative => replace(
+        RelaxationKind::RexMovIndirectToAbsolute(inst_offset) => {
+            let moved = field.moved(RelaxationKind::RexMovIndirectToAbsolute(3).shape())?;
+            set_prefixed(section_bytes, at, inst_offset, MOV);
+            Ok(moved)
+        }
+        RelaxationKind::RexAddIndirectToAbsolute(6) => {
+            let moved = field.moved(RelaxationKind::RexAddIndirectToAbsolute(6).shape())?;
+            set_evex_add(section_bytes, at);
+            Ok(moved)
+        }
+        RelaxationKind::RexAddIndirectToAbsolute(inst_offset) => {
+            let moved = field.moved(RelaxationKind::RexAddIndirectToAbsolute(3).shape())?;
+            set_prefixed(section_bytes, at, inst_offset, ADD);
+            Ok(moved)
+        }
+        RelaxationKind::RexAddIndirectToLea(_) => {
+            let moved = field.moved(RelaxationKind::RexAddIndirectToLea(3).shape())?;
+            set_lea(section_bytes, at);
+            Ok(moved)
+        }
+        RelaxationKind::RexSubIndirectToAbsolute(inst_offset) => {
+            let moved = field.moved(RelaxationKind::RexSubIndirectToAbsolute(3).shape())?;
+            set_prefixed(section_bytes, at, inst_offset, SUB);
+            Ok(moved)
+        }
+        RelaxationKind::RexCmpIndirectToAbsolute(inst_offset) => {
+            let moved = field.moved(RelaxationKind::RexCmpIndirectToAbsolute(3).shape())?;
+            set_prefixed(section_bytes, at, inst_offset, CMP);
+            Ok(moved)
+        }
+        RelaxationKind::CallIndirectToRelative => field.replace(
             RelaxationKind::CallIndirectToRelative.shape(),
             section_bytes,
-            offset,
-            addend,
             b"\x67\xe8",
         ),
-        RelaxationKind::JmpIndirectToRelative => replace(
+        RelaxationKind::JmpIndirectToRelative => field.replace(
             RelaxationKind::JmpIndirectToRelative.shape(),
             section_bytes,
-            offset,
-            addend,
             b"\xe9\x00\x00\x00\x00\x90",
         ),
         // mov %fs:0,%rax; lea {offset}(%rax),%rax
-        RelaxationKind::TlsGdToLocalExec => replace(
+        RelaxationKind::TlsGdToLocalExec => field.replace(
             RelaxationKind::TlsGdToLocalExec.shape(),
             section_bytes,
-            offset,
-            addend,
             b"\x64\x48\x8b\x04\x25\x00\x00\x00\x00\x48\x8d\x80",
         ),
         // mov %fs:0,%rax; lea {offset}(%rax),%rax; nopw (%rax,%rax)
-        RelaxationKind::TlsGdToLocalExecLarge => replace(
+        RelaxationKind::TlsGdToLocalExecLarge => field.replace(
             RelaxationKind::TlsGdToLocalExecLarge.shape(),
             section_bytes,
-            offset,
-            addend,
             b"\x64\x48\x8b\x04\x25\x00\x00\x00\x00\x48\x8d\x80\x00\x00\x00\x00\x66\x0f\x1f\x44\x00\x00",
         ),
         // mov %fs:0,%rax; add *x,%rax
-        RelaxationKind::TlsGdToInitialExec => replace(
+        RelaxationKind::TlsGdToInitialExec => field.replace(
             RelaxationKind::TlsGdToInitialExec.shape(),
             section_bytes,
-            offset,
-            addend,
             b"\x64\x48\x8b\x04\x25\x00\x00\x00\x00\x48\x03\x05",
         ),
         // mov %fs:0,%rax
-        RelaxationKind::TlsLdToLocalExec => replace(
+        RelaxationKind::TlsLdToLocalExec => field.replace(
             RelaxationKind::TlsLdToLocalExec.shape(),
             section_bytes,
-            offset,
-            addend,
             b"\x66\x66\x66\x64\x48\x8b\x04\x25\x00\x00\x00\x00",
         ),
         // mov %fs:0,%rax
-        RelaxationKind::TlsLdToLocalExecNoPlt => replace(
+        RelaxationKind::TlsLdToLocalExecNoPlt => field.replace(
             RelaxationKind::TlsLdToLocalExecNoPlt.shape(),
             section_bytes,
-            offset,
-            addend,
             b"\x66\x66\x66\x66\x64\x48\x8b\x04\x25\x00\x00\x00\x00",
         ),
         // nopw (%rax,%rax); mov %fs:0,%rax
-        RelaxationKind::TlsLdToLocalExec64 => replace(
+        RelaxationKind::TlsLdToLocalExec64 => field.replace(
             RelaxationKind::TlsLdToLocalExec64.shape(),
             section_bytes,
-            offset,
-            addend,
             b"\x66\x66\x66\x66\x2e\x0f\x1f\x84\x00\x00\x00\x00\x00\x64\x48\x8b\x04\x25\x00\x00\x00\x00",
         ),
-        RelaxationKind::TlsDescToLocalExec(n) => to_absolute(
-            RelaxationKind::TlsDescToLocalExec(3).shape(),
-            section_bytes,
-            offset,
-            addend,
-            n,
-            0xc7,
-            0,
-        ),
+        RelaxationKind::TlsDescToLocalExec(inst_offset) => {
+            let moved = field.moved(RelaxationKind::TlsDescToLocalExec(3).shape())?;
+            set_prefixed(section_bytes, at, inst_offset, MOV);
+            Ok(moved)
+        }
         // lea becomes mov, with the same prefix and addressing mode.
-        RelaxationKind::TlsDescToInitialExec => replace(
+        RelaxationKind::TlsDescToInitialExec => field.replace(
             RelaxationKind::TlsDescToInitialExec.shape(),
             section_bytes,
-            offset,
-            addend,
             b"\x8b",
         ),
         // xchg %ax,%ax
-        RelaxationKind::SkipTlsDescCall => replace(
+        RelaxationKind::SkipTlsDescCall => field.replace(
             RelaxationKind::SkipTlsDescCall.shape(),
             section_bytes,
-            offset,
-            addend,
             b"\x66\x90",
         ),
-        RelaxationKind::NoOp => replace(
-            RelaxationKind::NoOp.shape(),
-            section_bytes,
-            offset,
-            addend,
-            b"",
-        ),
+        RelaxationKind::NoOp => field.moved(RelaxationKind::NoOp.shape()),
     }
-}
-
-// ---- The writers: where the window lies inside, the new bytes; otherwise refusal 6
-
-// A fixed byte string, at the window's begin.
-#[tactic(auto, unfolding(rules::specs::Rewrite::after_rewriting))]
-fn replace(
-    shape: Shape,
-    section_bytes: &mut [u8],
-    offset: u64,
-    addend: i64,
-    fixed: &[u8],
-) -> Applied
-    requires { Ready shape section_bytes.old offset × (length fixed.now ≡ shape.window.size) }
-    ensures value { result ≡ applied_of (attempted shape (sets section_bytes.old (begin shape.window offset) fixed.now) section_bytes.old offset addend) }
-    ensures section_bytes_after { section_bytes.new ≡ after_rewriting section_bytes.old (attempted shape (sets section_bytes.old (begin shape.window offset) fixed.now) section_bytes.old offset addend) }
-{
-    let window = shape.window;
-    let inside = window.is_inside(section_bytes.len() as u64, offset);
-    if inside {
-        write(section_bytes, (offset - window.back) as usize, fixed);
-        return place(shape, offset, addend);
-    }
-    Applied::Refused(6)
-}
-
-// An opcode and its ModRM byte in register form.
-#[tactic(auto, unfolding(rules::specs::Rewrite::after_rewriting))]
-fn mov_to_absolute(shape: Shape, section_bytes: &mut [u8], offset: u64, addend: i64) -> Applied
-    requires { Ready shape section_bytes.old offset × (2 ≤ shape.window.back) × (shape.window.back ≤ shape.window.size) }
-    ensures value { result ≡ applied_of (attempted shape (rewritten MovIndirectToAbsolute section_bytes.old offset) section_bytes.old offset addend) }
-    ensures section_bytes_after { section_bytes.new ≡ after_rewriting section_bytes.old (attempted shape (rewritten MovIndirectToAbsolute section_bytes.old offset) section_bytes.old offset addend) }
-{
-    let window = shape.window;
-    let inside = window.is_inside(section_bytes.len() as u64, offset);
-    if inside {
-        set_register_form(section_bytes, offset as usize, 0xc7, 0);
-        return place(shape, offset, addend);
-    }
-    Applied::Refused(6)
-}
-
-// The same after a REX or REX2 prefix.
-#[tactic(auto, unfolding(rules::specs::Rewrite::after_rewriting))]
-fn to_absolute(
-    shape: Shape,
-    section_bytes: &mut [u8],
-    offset: u64,
-    addend: i64,
-    inst_offset: u8,
-    opcode: u8,
-    own: u8,
-) -> Applied
-    requires { Ready shape section_bytes.old offset × (3 ≤ shape.window.back) × (shape.window.back ≤ shape.window.size) × (own % 8 ≡ 0) × (own < 64) }
-    ensures value { result ≡ applied_of (attempted shape (to_absolute inst_offset opcode (own / 8) section_bytes.old offset) section_bytes.old offset addend) }
-    ensures section_bytes_after { section_bytes.new ≡ after_rewriting section_bytes.old (attempted shape (to_absolute inst_offset opcode (own / 8) section_bytes.old offset) section_bytes.old offset addend) }
-{
-    let window = shape.window;
-    let inside = window.is_inside(section_bytes.len() as u64, offset);
-    if inside {
-        set_prefixed(section_bytes, offset as usize, inst_offset, opcode, own);
-        return place(shape, offset, addend);
-    }
-    Applied::Refused(6)
-}
-
-// The same after an EVEX prefix: add.
-#[tactic(auto, unfolding(rules::specs::Rewrite::after_rewriting))]
-fn evex_add_to_absolute(shape: Shape, section_bytes: &mut [u8], offset: u64, addend: i64) -> Applied
-    requires { Ready shape section_bytes.old offset × (5 ≤ shape.window.back) × (shape.window.back ≤ shape.window.size) }
-    ensures value { result ≡ applied_of (attempted shape (evex_to_absolute section_bytes.old offset) section_bytes.old offset addend) }
-    ensures section_bytes_after { section_bytes.new ≡ after_rewriting section_bytes.old (attempted shape (evex_to_absolute section_bytes.old offset) section_bytes.old offset addend) }
-{
-    let window = shape.window;
-    let inside = window.is_inside(section_bytes.len() as u64, offset);
-    if inside {
-        set_evex_add(section_bytes, offset as usize);
-        return place(shape, offset, addend);
-    }
-    Applied::Refused(6)
-}
-
-// lea, with the register as its base too.
-#[tactic(auto, unfolding(rules::specs::Rewrite::after_rewriting))]
-fn add_to_lea(shape: Shape, section_bytes: &mut [u8], offset: u64, addend: i64) -> Applied
-    requires { Ready shape section_bytes.old offset × (3 ≤ shape.window.back) × (shape.window.back ≤ shape.window.size) }
-    ensures value { result ≡ applied_of (attempted shape (rewritten (RexAddIndirectToLea 3) section_bytes.old offset) section_bytes.old offset addend) }
-    ensures section_bytes_after { section_bytes.new ≡ after_rewriting section_bytes.old (attempted shape (rewritten (RexAddIndirectToLea 3) section_bytes.old offset) section_bytes.old offset addend) }
-{
-    let window = shape.window;
-    let inside = window.is_inside(section_bytes.len() as u64, offset);
-    if inside {
-        set_lea(section_bytes, offset as usize);
-        return place(shape, offset, addend);
-    }
-    Applied::Refused(6)
-}
-
-// Where the field lies then, and its addend.
-fn place(shape: Shape, offset: u64, addend: i64) -> Applied
-    requires { (shape.window.back ≤ offset) × (offset ≤ link_limit.most) × (shape.field ≤ 18) }
-    ensures { result ≡ Done (record { offset = begin shape.window offset + shape.field; addend = cond shape.clears (pos 0) addend }) }
-{
-    let window = shape.window;
-    let new_offset = offset - window.back + shape.field;
-    if shape.clears {
-        return Applied::Done(Moved {
-            offset: new_offset,
-            addend: 0,
-        });
-    }
-    Applied::Done(Moved {
-        offset: new_offset,
-        addend: addend,
-    })
 }
 
 // ---- An operand
 
-// An opcode, and its ModRM byte in register form: the table's entry, and the opcode's own constant, 28 for sub and 38 for cmp.
-fn set_register_form(section_bytes: &mut [u8], offset: usize, opcode: u8, own: u8)
-    requires { (2 ≤ offset) × (offset ≤ length section_bytes.old) × (own % 8 ≡ 0) × (own < 64) }
-    ensures { section_bytes.new ≡ sets section_bytes.old (offset - 2) (opcode ∷ direct (own / 8) (get_or section_bytes.old (offset - 1) 0) ∷ []) }
+// An opcode, with the constant that it adds to its ModRM byte: the digit of Intel's notation, times 8.
+#[derive(Clone, Copy, Debug)]
+struct Opcode {
+    byte: u8,
+    own: u8,
+    ghost digit: { (own % 8 ≡ 0) × (own < 64) },
+}
+
+const MOV: Opcode = Opcode { byte: 0xc7, own: 0 };
+
+const ADD: Opcode = Opcode { byte: 0x81, own: 0 };
+
+const SUB: Opcode = Opcode {
+    byte: 0x81,
+    own: 0x28,
+};
+
+const CMP: Opcode = Opcode {
+    byte: 0x81,
+    own: 0x38,
+};
+
+// An opcode, and its ModRM byte in register form: the table's entry plus the opcode's own constant.
+fn set_register_form(section_bytes: &mut [u8], offset: usize, opcode: Opcode)
+    requires { (2 ≤ offset) × (offset ≤ length section_bytes.old) }
+    ensures { section_bytes.new ≡ sets section_bytes.old (offset - 2) (opcode.byte ∷ direct (opcode.own / 8) (get_or section_bytes.old (offset - 1) 0) ∷ []) }
 {
     let mod_rm = section_bytes[offset - 1];
-    section_bytes[offset - 2] = opcode;
-    section_bytes[offset - 1] = x86_64_mod_rm::register_form(mod_rm) + own;
+    section_bytes[offset - 2] = opcode.byte;
+    section_bytes[offset - 1] = x86_64_mod_rm::register_form(mod_rm) + opcode.own;
 }
 
 // The same after a REX or REX2 prefix, whose register bits move.
-fn set_prefixed(section_bytes: &mut [u8], offset: usize, inst_offset: u8, opcode: u8, own: u8)
-    requires { (3 ≤ offset) × (offset ≤ length section_bytes.old) × (own % 8 ≡ 0) × (own < 64) }
-    ensures { section_bytes.new ≡ to_absolute inst_offset opcode (own / 8) section_bytes.old offset }
+fn set_prefixed(section_bytes: &mut [u8], offset: usize, inst_offset: u8, opcode: Opcode)
+    requires { (3 ≤ offset) × (offset ≤ length section_bytes.old) }
+    ensures { section_bytes.new ≡ to_absolute inst_offset opcode.byte (opcode.own / 8) section_bytes.old offset }
 {
     section_bytes[offset - 3] = prefix_moved(inst_offset, section_bytes[offset - 3]);
-    set_register_form(section_bytes, offset, opcode, own);
+    set_register_form(section_bytes, offset, opcode);
 }
 
 // The same after an EVEX prefix: add.
@@ -366,7 +261,7 @@ fn set_evex_add(section_bytes: &mut [u8], offset: usize)
     ensures { section_bytes.new ≡ evex_to_absolute section_bytes.old offset }
 {
     section_bytes[offset - 5] = evex_moved(section_bytes[offset - 5]);
-    set_register_form(section_bytes, offset, 0x81, 0);
+    set_register_form(section_bytes, offset, ADD);
 }
 
 // lea, with the register of a REX prefix and ModRM byte as its base too.

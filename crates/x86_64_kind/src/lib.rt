@@ -6,7 +6,7 @@ ghost use Rattle.std.specs.Prelude.{◌≡◌};
 ghost use Rattle.x86_64_kind.specs.Kinds.{inside, shape, shape_of, allowed, allows, skips, is_skip, numbered};
 ghost use Rattle.x86_64_kind.specs.declared.RelaxationKind.TheVariants.{RexAddIndirectToAbsolute};
 
-#[derive(Clone, Copy)]
+#[derive(Clone, Copy, Debug, PartialEq, Eq, Hash)]
 pub enum RelaxationKind {
     // A mov that would have loaded an address doesn't use the GOT: `mov *x(%rip), reg` -> `lea x(%rip), reg`.
     MovIndirectToLea,
@@ -51,14 +51,14 @@ pub enum RelaxationKind {
 }
 
 // The bytes that a kind reads or writes: `size` of them, from `back` before the offset on.
-#[derive(Clone, Copy)]
+#[derive(Clone, Copy, Debug, PartialEq, Eq, Hash)]
 pub struct Window {
     pub back: u64,
     pub size: u64,
 }
 
 // What `apply` does for a kind, but for the bytes.
-#[derive(Clone, Copy)]
+#[derive(Clone, Copy, Debug, PartialEq, Eq, Hash)]
 pub struct Shape {
     // "0 to 18 in the order of `RelaxationKind`": with the instruction offset it tells the kind.
     pub number: u8,
@@ -71,7 +71,7 @@ pub struct Shape {
     pub clears: bool,
 }
 
-#[derive(Clone, Copy)]
+#[derive(Clone, Copy, Debug, PartialEq, Eq, Hash)]
 pub enum RelocationModifier {
     Normal,
     SkipNextRelocation,
@@ -81,10 +81,7 @@ impl RelocationModifier {
     pub fn is_skip(self) -> bool
         ensures { result ≡ is_skip self }
     {
-        match self {
-            RelocationModifier::Normal => false,
-            RelocationModifier::SkipNextRelocation => true,
-        }
+        self == RelocationModifier::SkipNextRelocation
     }
 }
 
@@ -94,15 +91,7 @@ impl Window {
         ensures { result ≡ inside self len offset }
     {
         let back = self.back;
-        let size = self.size;
-        if back <= offset {
-            if offset - back <= len {
-                if size <= len - (offset - back) {
-                    return true;
-                }
-            }
-        }
-        false
+        back <= offset && offset - back <= len && self.size <= len - (offset - back)
     }
 }
 
@@ -110,14 +99,11 @@ fn row(number: u8, inst_offset: u8, back: u64, size: u64, field: u64, clears: bo
     ensures { result ≡ shape number inst_offset back size field clears }
 {
     Shape {
-        number: number,
-        inst_offset: inst_offset,
-        window: Window {
-            back: back,
-            size: size,
-        },
-        field: field,
-        clears: clears,
+        number,
+        inst_offset,
+        window: Window { back, size },
+        field,
+        clears,
     }
 }
 
@@ -174,30 +160,37 @@ impl RelaxationKind {
     pub fn is_allowed(self) -> bool
         ensures { result ≡ allowed self }
     {
-        let s = self.shape();
-        is_allowed_by(s.number, s.inst_offset)
+        match self {
+            RelaxationKind::RexAddIndirectToLea(n) => n == 3,
+            RelaxationKind::RexAddIndirectToAbsolute(n) => matches!(n, 3 | 4 | 6),
+            RelaxationKind::RexMovIndirectToAbsolute(n)
+            | RelaxationKind::RexSubIndirectToAbsolute(n)
+            | RelaxationKind::RexCmpIndirectToAbsolute(n)
+            | RelaxationKind::TlsDescToLocalExec(n) => matches!(n, 3 | 4),
+            _ => true,
+        }
     }
 
     pub fn next_modifier(self) -> RelocationModifier
         ensures { is_skip result ≡ skips self }
     {
-        let number = self.number();
-        if 10 <= number {
-            if number <= 15 {
-                return RelocationModifier::SkipNextRelocation;
-            }
+        match self {
+            RelaxationKind::TlsGdToLocalExec
+            | RelaxationKind::TlsGdToLocalExecLarge
+            | RelaxationKind::TlsLdToLocalExec
+            | RelaxationKind::TlsLdToLocalExecNoPlt
+            | RelaxationKind::TlsLdToLocalExec64
+            | RelaxationKind::TlsGdToInitialExec => RelocationModifier::SkipNextRelocation,
+            _ => RelocationModifier::Normal,
         }
-        RelocationModifier::Normal
     }
 
     // The kind of a number. A number of no kind gives RexMovIndirectToAbsolute(0), whose instruction
     // offset is not allowed.
+    // Kept: no Option, since C passes any number, and one of no kind is refused only after 1 and 2.
     pub fn from_number(number: u8, inst_offset: u8) -> RelaxationKind
         ensures { result ≡ numbered number inst_offset }
     {
-        if 18 < number {
-            return RelaxationKind::RexMovIndirectToAbsolute(0);
-        }
         match number {
             0 => RelaxationKind::MovIndirectToLea,
             1 => RelaxationKind::MovIndirectToAbsolute,
@@ -217,22 +210,8 @@ impl RelaxationKind {
             15 => RelaxationKind::TlsGdToInitialExec,
             16 => RelaxationKind::TlsDescToLocalExec(inst_offset),
             17 => RelaxationKind::TlsDescToInitialExec,
-            _ => RelaxationKind::SkipTlsDescCall,
+            18 => RelaxationKind::SkipTlsDescCall,
+            _ => RelaxationKind::RexMovIndirectToAbsolute(0),
         }
-    }
-}
-
-fn is_allowed_by(number: u8, inst_offset: u8) -> bool
-    ensures { result ≡ allows number inst_offset }
-{
-    let prefixed = (inst_offset == 3) | (inst_offset == 4);
-    match number {
-        4 => inst_offset == 3,
-        3 => prefixed | (inst_offset == 6),
-        2 => prefixed,
-        5 => prefixed,
-        6 => prefixed,
-        16 => prefixed,
-        _ => true,
     }
 }

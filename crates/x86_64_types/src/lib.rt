@@ -9,10 +9,12 @@ ghost use Rattle.x86_64_types.specs.Types.{found_of, info_with};
 
 use elf::{AllowedRange, RelocationKindInfo, RelocationSize};
 use elf_kind::RelocationKind;
+use refusal::Refusal;
 
 // A field's size with the range of its values, as constants: those of `AllowedRange::from_byte_size`
 // but for the two mixed ranges.
-#[derive(Clone, Copy)]
+// Kept: written out, since a constant's value can't call `AllowedRange::new` or `no_check`.
+#[derive(Clone, Copy, Debug, PartialEq, Eq, Hash)]
 struct RelocSizeAndRange {
     size: RelocationSize,
     range: AllowedRange,
@@ -90,15 +92,9 @@ const RELOC_NONE: RelocSizeAndRange = RelocSizeAndRange {
     range: UNCHECKED,
 };
 
-#[derive(Clone, Copy)]
-pub enum RelocationFound {
-    Is(RelocationKindInfo),
-    Refused(u8),
-}
-
 // The supplied x86-64 relocation as RelocationKindInfo, or refusal 7 if the r_type isn't recognised.
 #[tactic(auto, using(rules::proofs::Psabi::conforms, rules::proofs::Psabi::left_out_rows, rules::proofs::Records::types_worked), unfolding(rules::specs::Types::lookup, rules::specs::Types::earlier_types, rules::specs::Range::byte_range))]
-pub fn relocation_from_raw(r_type: u32) -> RelocationFound
+pub fn relocation_from_raw(r_type: u32) -> Result<RelocationKindInfo, Refusal>
     ensures value { result ≡ found_of (lookup r_type) }
     ensures conforms { Conforms r_type (lookup r_type) }
     ensures types_worked { TypesWorked × LeftOutRows }
@@ -140,7 +136,7 @@ pub fn relocation_from_raw(r_type: u32) -> RelocationFound
 
 // The types that the psABI added for relaxation: GOTPCRELX, and the forms with longer prefixes.
 #[tactic(auto, unfolding(rules::specs::Types::later_types, rules::specs::Range::byte_range))]
-fn later_relocation(r_type: u32) -> RelocationFound
+fn later_relocation(r_type: u32) -> Result<RelocationKindInfo, Refusal>
     ensures { result ≡ found_of (find later_types r_type) }
 {
     match r_type {
@@ -164,21 +160,22 @@ fn later_relocation(r_type: u32) -> RelocationFound
             RelocationKind::TlsDesc,
             RELOC_4_BYTE_SIGNED,
         ),
-        _ => RelocationFound::Refused(7),
+        _ => Err(Refusal::UnknownType),
     }
 }
 
 // A row, with what is the same in all of them.
-fn row(kind: RelocationKind, size_and_range: RelocSizeAndRange) -> RelocationFound
+fn row(
+    kind: RelocationKind,
+    size_and_range: RelocSizeAndRange,
+) -> Result<RelocationKindInfo, Refusal>
     ensures { result ≡ info_with kind size_and_range }
 {
-    let size = size_and_range.size;
-    let range = size_and_range.range;
-    RelocationFound::Is(RelocationKindInfo {
-        kind: kind,
-        size: size,
+    Ok(RelocationKindInfo {
+        kind,
+        size: size_and_range.size,
         mask: false,
-        range: range,
+        range: size_and_range.range,
         alignment: 1,
         bias: false,
         thunkable: false,

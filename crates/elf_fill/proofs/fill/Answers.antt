@@ -1,50 +1,39 @@
--- Each return is one case of `filling`.
-use Rattle.std.proofs.Common.{sym, ◌∙◌, arith}
-use Rattle.elf_fill.proofs.Cases.{refused, left_alone, long, over, missing, nothing, filled_by}
+use Rattle.std.proofs.Common.{arith, rules}
+use Rattle.elf_fill.proofs.Cases.{missing, nothing, filled_by}
 use Rattle.elf_fill.proofs.fill.Goals as goal
 
-pub returns-then-section_limit-section_bytes : goal.returns-then-section_limit-section_bytes
-returns-then-section_limit-section_bytes c =
+pub returns-in_err-info-clause-value : goal.returns-in_err-info-clause-value
+returns-in_err-info-clause-value c =
     let a = c.args in
-    let e = c.section_limit.ensures.value in
-    let d = refused a.section_bytes.now a.field (long a.section_bytes.now a.field (omega arith)) in
-    record { value = d.0; section_bytes_after = d.1.0; fills = d.1.1.0; by_index = d.1.1.1.0; fill_worked = d.1.1.1.1 }
+    rw (missing a.section_bytes.now a.field (omega arith) (omega arith) c.in_err-info.ensures.value) (search rules)
 
-pub returns-then-section_bytes-offset : goal.returns-then-section_bytes-offset
-returns-then-section_bytes-offset c =
+pub returns-then-not-is_filled-clause-value : goal.returns-then-not-is_filled-clause-value
+returns-then-not-is_filled-clause-value c =
     let a = c.args in
-    let e = c.section_limit.ensures.value in
-    let d = refused a.section_bytes.now a.field (over a.section_bytes.now a.field (omega arith) (omega arith)) in
-    record { value = d.0; section_bytes_after = d.1.0; fills = d.1.1.0; by_index = d.1.1.1.0; fill_worked = d.1.1.1.1 }
+    rw (nothing a.section_bytes.now a.field (omega arith) (omega arith) c.in_ok-info.ensures.value (search rules)) (search rules)
 
-pub returns-in-Refused : goal.returns-in-Refused
-returns-in-Refused c =
+pub returns-in_err-write_to_buffer-clause-value : goal.returns-in_err-write_to_buffer-clause-value
+returns-in_err-write_to_buffer-clause-value c =
     let a = c.args in
-    let e = c.section_limit.ensures.value in
-    let d = refused a.section_bytes.now a.field (missing a.section_bytes.now a.field (omega arith) (omega arith) c.in-Refused.ensures.value) in
-    record { value = d.0; section_bytes_after = d.1.0; fills = d.1.1.0; by_index = d.1.1.1.0; fill_worked = d.1.1.1.1 }
+    let w = c.in_err-write_to_buffer.ensures in
+    rw (filled_by a.section_bytes.now a.field (omega arith) (omega arith) c.in_ok-info.ensures.value (search rules) c.relocated.ensures w.value w.output_after).0
+    (search rules)
 
-pub returns-in-Is : goal.returns-in-Is
-returns-in-Is c =
+pub returns-in_err-write_to_buffer-clause-section_bytes_after : goal.returns-in_err-write_to_buffer-clause-section_bytes_after
+returns-in_err-write_to_buffer-clause-section_bytes_after c =
     let a = c.args in
-    let e = c.section_limit.ensures.value in
-    let d =
-    filled_by a.section_bytes.now a.field (omega arith) (omega arith) c.in-Is.ensures.value (sym c.is_filled-filled.ensures ∙ c.if-filled.true)
-    c.relocated.ensures c.write_to_buffer.ensures.value c.write_to_buffer.ensures.output_after in
-    record { value = d.0; section_bytes_after = d.1.0; fills = d.1.1.0; by_index = d.1.1.1.0; fill_worked = d.1.1.1.1 }
+    let w = c.in_err-write_to_buffer.ensures in
+    (filled_by a.section_bytes.now a.field (omega arith) (omega arith) c.in_ok-info.ensures.value (search rules) c.relocated.ensures w.value w.output_after).1
 
-pub returns-in-Refused-relocation_from_raw : goal.returns-in-Refused-relocation_from_raw
-returns-in-Refused-relocation_from_raw c =
+pub returns-clause-value : goal.returns-clause-value
+returns-clause-value c =
     let a = c.args in
-    let e = c.section_limit.ensures.value in
-    let d = refused a.section_bytes.now a.field (missing a.section_bytes.now a.field (omega arith) (omega arith) c.in-Refused-relocation_from_raw.ensures.value) in
-    record { value = d.0; section_bytes_after = d.1.0; fills = d.1.1.0; by_index = d.1.1.1.0; fill_worked = d.1.1.1.1 }
+    let w = c.in_ok-write_to_buffer.ensures in
+    rw (filled_by a.section_bytes.now a.field (omega arith) (omega arith) c.in_ok-info.ensures.value (search rules) c.relocated.ensures w.value w.output_after).0
+    (search rules)
 
-pub returns-in-Is-relocation_from_raw : goal.returns-in-Is-relocation_from_raw
-returns-in-Is-relocation_from_raw c =
+pub returns-clause-section_bytes_after : goal.returns-clause-section_bytes_after
+returns-clause-section_bytes_after c =
     let a = c.args in
-    let e = c.section_limit.ensures.value in
-    let d =
-    left_alone a.section_bytes.now a.field
-    (nothing a.section_bytes.now a.field (omega arith) (omega arith) c.in-Is-relocation_from_raw.ensures.value (sym c.is_filled-filled.ensures ∙ c.if-filled.false)) in
-    record { value = d.0; section_bytes_after = d.1.0; fills = d.1.1.0; by_index = d.1.1.1.0; fill_worked = d.1.1.1.1 }
+    let w = c.in_ok-write_to_buffer.ensures in
+    (filled_by a.section_bytes.now a.field (omega arith) (omega arith) c.in_ok-info.ensures.value (search rules) c.relocated.ensures w.value w.output_after).1

@@ -1,16 +1,13 @@
--- Refusals and none are relaxing's own.
+-- A refusal of choosing and none are relaxing's own.
 -- Assumes nothing.
-use Rattle.relax.proofs.Relaxing.{by_choice}
+use Rattle.std.proofs.Common.{rules, ◌≡◌, ◌∙◌, Err}
+use Rattle.relax.proofs.Relaxing.{of_refusal, of_none}
 use Rattle.relax.proofs.relax.Goals as goal
 
-pub returns-in-Refused-clause-value : goal.returns-in-Refused-clause-value
-returns-in-Refused-clause-value c = (by_choice c.args.section_bytes.now c.args.rel _ c.in-Refused.ensures).0
+pub returns-in_err-relaxation-clause-value : goal.returns-in_err-relaxation-clause-value
+returns-in_err-relaxation-clause-value c =
+    let e : c.from_residual.result ≡ Err c.in_err-relaxation.field-0.0 = search rules in
+    e ∙ (of_refusal c.args.section_bytes.now c.args.rel _ c.in_err-relaxation.ensures).0
 
-pub returns-in-Refused-clause-section_bytes_after : goal.returns-in-Refused-clause-section_bytes_after
-returns-in-Refused-clause-section_bytes_after c = (by_choice c.args.section_bytes.now c.args.rel _ c.in-Refused.ensures).1.0
-
-pub returns-in-Nothing-clause-value : goal.returns-in-Nothing-clause-value
-returns-in-Nothing-clause-value c = (by_choice c.args.section_bytes.now c.args.rel _ c.in-Nothing.ensures).0
-
-pub returns-in-Nothing-clause-section_bytes_after : goal.returns-in-Nothing-clause-section_bytes_after
-returns-in-Nothing-clause-section_bytes_after c = (by_choice c.args.section_bytes.now c.args.rel _ c.in-Nothing.ensures).1.0
+pub returns-in-None-clause-section_bytes_after : goal.returns-in-None-clause-section_bytes_after
+returns-in-None-clause-section_bytes_after c = (of_none c.args.section_bytes.now c.args.rel (rw c.in-None.is at c.in_ok-relaxation.ensures)).1

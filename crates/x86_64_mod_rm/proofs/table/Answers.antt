@@ -8,7 +8,7 @@ use Rattle.laws.proofs.Bytes.{every, same}
 use Rattle.x86_64_mod_rm.specs.Table.{entry, RegisterForms}
 use Rattle.x86_64_mod_rm.proofs.table.Goals as goal
 
-tested : {table : List (List ℕ)} → T (every (λ m. eqb (entry table m) (direct 0 m)) 256) → RegisterForms table
+tested : {table : List ℕ} → T (every (λ m. eqb (entry table m) (direct 0 m)) 256) → RegisterForms table
 tested {table} test = record { rule = λ m h. same (entry table) (direct 0) test m (omega arith) }
 
 pub returns : goal.returns
