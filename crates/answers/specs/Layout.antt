@@ -1,5 +1,5 @@
 -- The code's answers of choosing, rewriting and relaxing in the exported layouts, every field. Assumes nothing.
-use Rattle.std.specs.Prelude.{[], ◌∷◌, pos, Option, Some, None, Result, Ok, Err}
+use Rattle.std.specs.Prelude.{Bool, [], ◌∷◌, pos, eqb, Option, Some, None, Result, Ok, Err}
 use Rattle.std.specs.Int.{w64, from_le_bytes}
 use Rattle.x86_64_kind.specs.Kinds.{shape_of, skips}
 use Rattle.refusal.specs.declared.Refusal.{Refusal}
@@ -33,6 +33,10 @@ abbrev pub choice_layout : Result (Option Relaxation) Refusal → ChoiceAnswer
 choice_layout (Ok (Some x)) = chosen_layout x
 choice_layout (Ok None) = record { head = 0; new_type = 0 }
 choice_layout (Err e) = refused_layout e
+
+-- whether it is none's: a choice has a 1 in its head, a refusal its number, which isn't 0
+abbrev pub is_none : ChoiceAnswer → Bool
+is_none a = eqb a.head 0
 
 abbrev pub moved_layout : Result Moved Refusal → MovedAnswer
 moved_layout (Ok m) = record { refusal = 0; offset = m.offset; addend = m.addend }

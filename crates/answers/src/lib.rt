@@ -3,7 +3,7 @@
 #![tactic(auto)]
 
 ghost use Rattle.std.specs.Prelude.{◌≡◌};
-ghost use Rattle.answers.specs.Layout.{chosen_layout, refused_layout, choice_layout, moved_layout, relaxed_layout};
+ghost use Rattle.answers.specs.Layout.{chosen_layout, refused_layout, choice_layout, is_none, moved_layout, relaxed_layout};
 
 use elf_x86_64_relaxation::Relaxation;
 use refusal::Refusal;
@@ -11,14 +11,24 @@ use relax::Relaxed;
 use x86_64_apply::Moved;
 
 // A choice. The bytes of `head`, low byte first: the refusal; then, where a kind was chosen, 1, the kind, its
-// instruction offset, mandatory, skip the next relocation, needs a GOT fallback; and 0. One number, so that an answer
-// takes few stores. C and Rust have a field for each of the seven, at the same places: there the struct ends after
-// `new_type`, 4 bytes earlier, which shows neither in two registers nor before the offset of `RelaxedAnswer`.
+// instruction offset, mandatory, skip the next relocation, needs a GOT fallback; and 0. C and Rust have a field for each of
+// the seven, at the same places: there the struct ends after `new_type`, 4 bytes earlier, which shows neither in two
+// registers nor before the offset of `RelaxedAnswer`.
+// Kept: one number in place of the seven fields, with which an answer takes four stores where it took ten.
 #[repr(C)]
 #[derive(Clone, Copy, Debug, Default, PartialEq, Eq, Hash)]
 pub struct ChoiceAnswer {
     pub head: u64,
     pub new_type: u32,
+}
+
+impl ChoiceAnswer {
+    // Whether nothing is chosen, and nothing refused: then every byte of the head is 0.
+    pub fn is_none(self) -> bool
+        ensures { result ≡ is_none self }
+    {
+        self.head == 0
+    }
 }
 
 // Where the field lies after rewriting, and its addend.

@@ -9,7 +9,7 @@ use Rattle.rules.specs.Rewrite.{relaxing, after_relaxing}
 use Rattle.x86_64_apply.specs.declared.Moved.{Moved}
 use Rattle.relax.specs.declared.Relaxed.{Relaxed}
 use Rattle.relax.specs.Answers.{relaxed_of}
-use Rattle.case_read.specs.Record.{Record, record_of}
+use Rattle.case_read.specs.Record.{Record}
 use Rattle.case_read.specs.Reading.{records}
 use Rattle.case_file.specs.Text.{decimal, signed_decimal, hex, spaced}
 
@@ -47,7 +47,7 @@ line n a s = field n ++ fields a ++ line_end s
 -- "It relaxes each record alone .. After 10 to 13 HEX is "-""
 unfoldable pub line_of : ℕ → Answer Record → List ℕ
 line_of n (Ok c) =
-    let a = relaxing link_limit c.section (record_of c) in
+    let a = relaxing link_limit c.section c.rel in
     line n (relaxed_of a) (after_relaxing c.section a)
 line_of n (Err e) = line n (Err e) []
 

@@ -16,7 +16,7 @@ use relax::Relaxed;
 use x86_64_apply::Moved;
 
 // A text at the start of a lent buffer.
-// Kept: a length beside the buffer, since nothing is put on the heap.
+// Kept: a length beside the buffer, which the caller lends: a Vec or an ArrayVec would own it.
 #[derive(Drop)]
 struct Text<'a> {
     out: &'a mut [u8],
@@ -167,32 +167,25 @@ impl Text<'_> {
         }
     }
 
+    // Relaxes the record of a case alone, in a copy of its section.
+    #[tactic(auto, using(crate::proofs::Bounds::line_bound), unfolding(crate::specs::CaseFile::line_of))]
     fn put_case(&mut self, number: u64, case: Case<'_>)
         requires { written self.old + most_of (Ok case) ≤ capacity self.old }
         ensures line { self.new ≡ put self.old (line_of number (Ok case.entry)) }
         ensures bound { length (line_of number (Ok case.entry)) ≤ most_of (Ok case.entry) }
     {
-        let mut copy = [0; 4096];
-        self.put_relaxing(number, &case, &mut copy[..case.section.len()]);
-    }
-
-    // Relaxes the record of a case alone, in a copy of its section.
-    #[tactic(auto, using(crate::proofs::Bounds::line_bound), unfolding(crate::specs::CaseFile::line_of))]
-    fn put_relaxing(&mut self, number: u64, case: &Case<'_>, copy: &mut [u8])
-        requires room { written self.old + most_of (Ok case.now) ≤ capacity self.old }
-        requires len { length copy.old ≡ length case.now.section }
-        ensures line { self.new ≡ put self.old (line_of number (Ok case.now)) }
-        ensures bound { length (line_of number (Ok case.now)) ≤ most_of (Ok case.now) }
-    {
+        // Kept: a fixed buffer, since nothing is put on the heap.
+        let mut buffer = [0; 4096];
+        let copy = &mut buffer[..case.section.len()];
         copy.copy_from_slice(case.section);
-        let relaxed = relax::relax(copy, case.into());
+        let relaxed = relax::relax(copy, case.rel);
         self.put_line(number, relaxed, copy);
     }
 }
 
 // The text of a case file, of which at most 65,536 bytes count, at the start of `out`, and how long
 // it is. The contract ends with how long a line can be, and with document 01's sample.
-// Kept: a fixed buffer and the text's length, since the library has no heap and printing cannot fail.
+// Kept: a fixed buffer that the caller lends, and the text's length, since the library has no heap and printing cannot fail.
 #[tactic(auto, using(crate::proofs::Bounds::room, crate::proofs::Bounds::bounds, crate::proofs::Sample::sample_holds), unfolding(crate::specs::CaseFile::text, crate::specs::Parts::put, crate::specs::Parts::written, crate::specs::Parts::capacity))]
 pub fn print_cases(file: &[u8], out: &mut [u8; 458923]) -> usize
     ensures out_after { out.new ≡ sets out.old 0 (text file.now) }

@@ -3,6 +3,8 @@ use Rattle.std.specs.Prelude.{Bool, not, cond, ◌&&◌, List, [], ◌∷◌, �
 use Rattle.std.specs.Int.{w16, w64, from_le_bytes}
 use Rattle.refusal.specs.declared.Refusal.TheVariants.{WrongMark, FileEndsInside, ExecutableByte, RecordTooLong}
 use Rattle.rules.specs.Answer.{Answer}
+use Rattle.rules.specs.Record.{relocation}
+use Rattle.rules.specs.Range.{signed64}
 use Rattle.case_read.specs.Record.{Record}
 
 -- ---- a record, at the start of these bytes
@@ -22,17 +24,12 @@ module _ (bytes : List ℕ) where
   abbrev pub marked : Bool
   marked = eqb (byte_of 0) 0x52 && eqb (byte_of 1) 0x58
 
-  -- "then type, flags, output kind, executable (a byte each), offset and length (2 each), address and addend (8 each) .., then the section"
+  -- "then type, flags, output kind, executable (a byte each), offset and length (2 each), address and addend (8 each) .., then the section"; "a signed
+  -- addend"
   abbrev pub case_of : Record
   case_of =
       record {
-        r_type = byte_of 2;
-        flags = byte_of 3;
-        output_kind = byte_of 4;
-        executable = eqb (byte_of 5) 1;
-        offset = two_of 6;
-        address = eight_of 10;
-        addend = eight_of 18;
+        rel = relocation (byte_of 2) (two_of 6) (byte_of 3) (byte_of 4) (eqb (byte_of 5) 1) (eight_of 10) (signed64 (eight_of 18));
         section = take (two_of 8) (drop 26 bytes);
       }
 

@@ -10,16 +10,10 @@ use refusal::Refusal;
 use rules::Relocation;
 use std::marker::Model;
 
-// A record as the file has it: the addend as it stands.
+// A record of the file, and its section.
 #[derive(Drop)]
 pub struct Case<'a> {
-    pub r_type: u8,
-    pub flags: u8,
-    pub output_kind: u8,
-    pub executable: bool,
-    pub offset: u64,
-    pub address: u64,
-    pub addend: u64,
+    pub rel: Relocation,
     pub section: &'a [u8],
 }
 
@@ -30,7 +24,7 @@ impl<'a> Model for Case<'a> {
 
     ghost Value = { Record };
 
-    ghost view = { λ c. record { r_type = c.r_type; flags = c.flags; output_kind = c.output_kind; executable = c.executable; offset = c.offset; address = c.address; addend = c.addend; section = c.section.now } };
+    ghost view = { λ c. record { rel = c.rel; section = c.section.now } };
 
     ghost invariant = { λ c. length c.section.now ≤ 4096 };
 }
@@ -41,25 +35,6 @@ impl Case<'_> {
         ensures { result ≡ 26 + length self.now.section }
     {
         26 + self.section.len()
-    }
-}
-
-// The addend is read as signed.
-impl From<&Case<'_>> for Relocation {
-    ghost use Rattle.case_read.specs.Record.{record_of};
-
-    ghost from_gives = { λ c r. r ≡ record_of c.now };
-
-    fn from(case: &Case<'_>) -> Relocation {
-        Relocation {
-            r_type: case.r_type.into(),
-            offset: case.offset,
-            flags: case.flags,
-            output_kind: case.output_kind,
-            executable: case.executable,
-            address: case.address,
-            addend: elf::as_i64(case.addend),
-        }
     }
 }
 
@@ -133,7 +108,7 @@ fn rest_after<'a>(bytes: &'a [u8], read: &Result<Case<'_>, Refusal>) -> &'a [u8]
 }
 
 // The record at the start of these bytes.
-#[tactic(auto, unfolding(crate::specs::Reading::first))]
+#[tactic(auto, unfolding(crate::specs::Reading::first, rules::specs::Range::signed64))]
 fn first(bytes: &[u8]) -> Result<Case<'_>, Refusal>
     ensures value { result ≡ first bytes.now }
     ensures within { IfOk result (λ c. 26 + length c.section ≤ length bytes.now) }
@@ -151,14 +126,17 @@ fn first(bytes: &[u8]) -> Result<Case<'_>, Refusal>
     if 4096 < len {
         return Err(Refusal::RecordTooLong);
     }
-    Ok(Case {
-        r_type,
+    let rel = Relocation {
+        r_type: r_type.into(),
+        offset: u16::from_le_bytes(part(bytes, 6)).into(),
         flags,
         output_kind,
         executable: executable == 1,
-        offset: u16::from_le_bytes(part(bytes, 6)).into(),
         address: u64::from_le_bytes(part(bytes, 10)),
-        addend: u64::from_le_bytes(part(bytes, 18)),
+        addend: i64::from_le_bytes(part(bytes, 18)),
+    };
+    Ok(Case {
+        rel,
         section: bytes.get(26..26 + len).ok_or(Refusal::FileEndsInside)?,
     })
 }
@@ -168,7 +146,5 @@ fn part<const N: usize>(bytes: &[u8], at: usize) -> [u8; N]
     requires { at + N ≤ length bytes.now }
     ensures { result ≡ take N (drop at bytes.now) }
 {
-    let mut part = [0; N];
-    part.copy_from_slice(&bytes[at..at + N]);
-    part
+    bytes[at..at + N].try_into().unwrap()
 }

@@ -2,8 +2,7 @@
 #![tactic(auto)]
 
 ghost use Rattle.std.specs.Prelude.{◌≡◌, ℕ, length, slice_get};
-ghost use Rattle.rules.specs.Range.{unchecked, within, contains, byte_range, signed64, Keeps, low_first, LowPart};
-ghost use Rattle.rules.specs.Rewrite.{word_of};
+ghost use Rattle.rules.specs.Range.{unchecked, within, contains, byte_range, Keeps, low_first, LowPart};
 ghost use Rattle.rules.specs.Types.{dynamic_type};
 ghost use Rattle.rules.specs.Psabi.{DynamicNames};
 ghost use Rattle.elf.specs.Elf.{range_of, range_from, width_of, sign_of, dynamic_kinds, dynamic_number};
@@ -31,7 +30,8 @@ pub enum DynamicRelocationKind {
 }
 
 impl DynamicRelocationKind {
-    // The kind at a place among the ten, from 0: an Option, since no document refuses other numbers.
+    // The kind at a place among the ten, from 0.
+    // Kept: no TryFrom, since no document has a refusal for other numbers.
     pub fn from_number(number: u32) -> Option<DynamicRelocationKind>
         ensures { result ≡ slice_get dynamic_kinds number }
     {
@@ -79,7 +79,8 @@ pub struct RelocationSize {
 // Allowed range (half-open) of a computed value of a relocation. Where it isn't checked, every
 // value is allowed (the Rust's `no_check` leaves out i64::MAX, docs/DIFFERENCES.md), and the ends
 // are 0.
-// Kept: as Option of the ends the lookup is a table of jumps, and takes 13.3 ns on random types where this form takes 6.0.
+// Kept: as Option of the ends the lookup is a table of jumps, and takes twice the time of this form (docs/DECISIONS.md,
+// 'Forms').
 #[derive(Clone, Copy, Debug, PartialEq, Eq, Hash)]
 pub struct AllowedRange {
     pub checked: bool,
@@ -147,23 +148,10 @@ impl AllowedRange {
     }
 }
 
-// The Rust's `value as i64` of a u64.
-#[tactic(auto, unfolding(rules::specs::Range::signed64))]
-pub fn as_i64(value: u64) -> i64
-    ensures { result ≡ signed64 value }
-{
-    value.cast_signed()
-}
-
-// The Rust's `value as u64` of an i64.
-pub fn as_u64(value: i64) -> u64
-    ensures { result ≡ word_of value }
-{
-    value.cast_unsigned()
-}
-
 // The low bytes of a value, low byte first, as many as `output` has: the Rust's `to_le_bytes`, at any width. Read back, they
 // are the value's low part.
+// Kept: byte by byte, since `to_le_bytes` has eight and a row's size may be more: a split, a copy and a fill would take the
+// loop's place.
 #[tactic(auto, using(rules::proofs::Fill::low_part))]
 pub fn write_low_first(value: u64, output: &mut [u8])
     ensures output_after { output.new ≡ low_first (length output.old) value }
@@ -181,6 +169,7 @@ pub struct RelocationKindInfo {
     pub kind: RelocationKind,
     pub size: RelocationSize,
     // Whether there is a page mask: never on x86-64.
+    // Kept: a bool, here and for the bias. As in the Rust they would be Options of types that have no value here.
     pub mask: bool,
     pub range: AllowedRange,
     pub alignment: u8,

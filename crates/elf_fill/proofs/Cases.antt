@@ -1,7 +1,8 @@
 -- The cases of `filling` by what the lookup found; and `write_to_buffer` on the part of the section from the offset on, said of the whole.
 -- Assumes nothing.
 use Rattle.std.specs.Prelude.{Result, Ok, Err}
-use Rattle.std.proofs.Common.{◌≡◌, ℕ, ◌+◌, ◌-◌, ◌≤◌, Bool, true, false, cond, not, eqb, ltb, nat_lt, List, [], ◌∷◌, ◌++◌, length, take, drop, sym, refl, ap, ◌∙◌, append_assoc, append-nil, zero-add, arith, length-drop, drop_of_length-le, length-take-le, take_all, drop-drop, ltb-false, ltb-true, le-ltb, lt-ltb, eqb-true}
+use Rattle.std.proofs.Common.{◌≡◌, ℕ, ◌+◌, ◌-◌, ◌≤◌, Bool, true, false, cond, not, eqb, ltb, nat_lt, List, [], ◌∷◌, ◌++◌, length, take, drop, sym, refl, ap, ◌∙◌, append_assoc, append-nil, zero-add, arith, length-drop, drop_of_length-le, length-take-le, take_all, drop-drop, ltb-false, ltb-true, le-ltb, lt-ltb, eqb-true, to_z, w64}
+use Rattle.std.proofs.lemmas.Int.{ints}
 use lib.Seq.{sets, sets-eq}
 use borrow.Rule.Slice.PartMut.{mid_of, put_mid, put_same}
 use Rattle.laws.proofs.Bools.{never}
@@ -138,3 +139,13 @@ module _ (sec : List ℕ) (f : Field) (within : length sec ≤ 268435456) (low :
       → (filling_of (filling link_limit sec f) ≡ wrote sec at y) × (back sec at new ≡ after_filling sec (filling link_limit sec f))
   filled_by {info} e k u p q =
       rw (p, q, u) (ap filling_of (written_is e k) ∙ answered sec at (nat_lt (length (part sec at)) info.size.byte_size) (contains (range_of info.range) (signed64 (field_value f))) _, put_back sec at _ _ (written_is e k))
+
+-- reading as signed is std's
+pub signed : (x : ℕ) → to_z w64 x ≡ signed64 x
+unfolding signed64
+signed x = grind (arith, ints)
+
+-- a value that is taken lies in the range
+pub fits : (b : Bool) → ◌≡◌ {A = Result Unit Refusal} (Ok tt) (cond b (Ok tt) (Err ValueOutOfRange)) → b ≡ true
+fits true e = refl
+fits false e = cc

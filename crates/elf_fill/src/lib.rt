@@ -2,7 +2,8 @@
 // 02, card 4.
 #![tactic(auto)]
 
-ghost use Rattle.std.specs.Prelude.{◌≡◌, ℕ, List};
+ghost use Rattle.std.specs.Prelude.{◌≡◌, ℕ, List, cond, Ok, Err};
+ghost use Rattle.refusal.specs.declared.Refusal.TheVariants.{ValueOutOfRange};
 ghost use Rattle.rules.specs.Record.{link_limit};
 ghost use Rattle.rules.specs.Range.{contains};
 ghost use Rattle.rules.specs.Fill.{fills, field_value, filling, after_filling, Fills};
@@ -44,17 +45,20 @@ pub fn fill(section_bytes: &mut [u8], field: Field) -> Result<bool, Refusal>
 fn is_filled(r_type: u32) -> bool
     ensures { result ≡ fills r_type }
 {
-    (r_type == object::R_X86_64_PC32)
-        | (r_type == object::R_X86_64_32)
-        | (r_type == object::R_X86_64_32S)
-        | (r_type == object::R_X86_64_TPOFF32)
+    matches!(
+        r_type,
+        object::R_X86_64_PC32
+            | object::R_X86_64_32
+            | object::R_X86_64_32S
+            | object::R_X86_64_TPOFF32
+    )
 }
 
 // The value plus the addend, less the field's address for PC32. Both wrap.
 fn relocated(field: Field) -> u64
     ensures { result ≡ field_value field }
 {
-    let value = field.value.wrapping_add(elf::as_u64(field.addend));
+    let value = field.value.wrapping_add(field.addend.cast_unsigned());
     if field.r_type == object::R_X86_64_PC32 {
         return value.wrapping_sub(field.address);
     }
@@ -62,7 +66,7 @@ fn relocated(field: Field) -> u64
 }
 
 // RelocationKindInfo::write_to_buffer, which tests the range first: here 16 comes before 15.
-#[tactic(auto, using(crate::proofs::Cases::prefix), unfolding(rules::specs::Fill::after_filling))]
+#[tactic(auto, using(crate::proofs::Cases::prefix), unfolding(rules::specs::Fill::after_filling, rules::specs::Range::signed64))]
 pub fn write_to_buffer(
     info: RelocationKindInfo,
     value: u64,
@@ -75,16 +79,17 @@ pub fn write_to_buffer(
     if output.len() < byte_size {
         return Err(Refusal::FieldNotInside);
     }
-    if !verify(info, elf::as_i64(value)) {
-        return Err(Refusal::ValueOutOfRange);
-    }
+    verify(info, value.cast_signed())?;
     elf::write_low_first(value, &mut output[..byte_size]);
     Ok(())
 }
 
 // RelocationKindInfo::verify. On x86-64 every row has alignment 1, which any value has.
-fn verify(info: RelocationKindInfo, value: i64) -> bool
-    ensures { result ≡ contains (range_of info.range) value }
+fn verify(info: RelocationKindInfo, value: i64) -> Result<(), Refusal>
+    ensures { result ≡ cond (contains (range_of info.range) value) (Ok tt) (Err ValueOutOfRange) }
 {
-    info.range.contains(value)
+    if !info.range.contains(value) {
+        return Err(Refusal::ValueOutOfRange);
+    }
+    Ok(())
 }

@@ -9,9 +9,9 @@ use native.Mathlib.Omega.{arith}
 use lib.Dec.{eqb, leb}
 use lib.ListN.{length, drop, take}
 use Rattle.std.specs.Cmp.Lexicographic.{pointwise}
+use Rattle.std.proofs.lemmas.Bool.{and_right}
 use Rattle.std.proofs.lemmas.Bool.Decides.{nat_tests}
 use Rattle.std.proofs.lemmas.List.{drop-take, length-take-le}
-use Rattle.laws.proofs.Bools.{and-false}
 use Rattle.refusal.specs.declared.Refusal.{Refusal}
 use Rattle.rules.specs.Answer.{Answer}
 use Rattle.rules.specs.Choose.{starts_with, stands}
@@ -34,7 +34,7 @@ starts (a ∷ p) (b ∷ s) = rw (starts p s, flip a b)
 shorter : (p t : List ℕ) → length t < length p → pointwise eqb p t ≡ false
 shorter [] t h = absurd (omega arith)
 shorter (a ∷ p) [] h = refl
-shorter (a ∷ p) (b ∷ t) h = rw (shorter p t (omega arith)) (and-false (eqb a b))
+shorter (a ∷ p) (b ∷ t) h = rw (shorter p t (omega arith)) (and_right (eqb a b) false refl)
 
 inside : (p s : List ℕ) (n : ℕ) → pointwise eqb p (drop n (take (n + length p) s)) ≡ starts_with p (drop n s)
 inside p s n = rw (drop-take n (length p) s) (starts p (drop n s))

@@ -3,7 +3,7 @@ ghost use Rattle.std.specs.Prelude.{◌≡◌, drop};
 ghost use Rattle.rules.specs.Choose.{starts_with};
 
 // Whether a part starts with a fixed byte string.
-// Kept: a function of its own, since with the library's called in their place two callers' proofs didn't close.
+// Kept: a function of its own, since with the library's called in its place tlsgd's proof didn't close.
 #[tactic(auto, using(crate::proofs::Laws::starts))]
 pub fn starts_with(part: &[u8], fixed: &[u8]) -> bool
     ensures { result ≡ starts_with fixed.now part.now }

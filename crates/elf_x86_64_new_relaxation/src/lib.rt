@@ -121,10 +121,10 @@ fn relax_to(kind: RelaxationKind, new_type: u32, mandatory: bool) -> Option<Rela
 }
 
 // Whether an address, read as signed, lies in the range of a type.
-#[tactic(auto, unfolding(rules::specs::Choose::in_range))]
+#[tactic(auto, unfolding(rules::specs::Choose::in_range, rules::specs::Range::signed64))]
 fn in_range(new_type: u32, address: u64) -> bool
     ensures { result ≡ in_range new_type (signed64 address) }
 {
-    let value = elf::as_i64(address);
+    let value = address.cast_signed();
     x86_64_types::relocation_from_raw(new_type).is_ok_and(|info| info.range.contains(value))
 }

@@ -5,7 +5,6 @@ ghost use Rattle.std.specs.Prelude.{◌≡◌, ◌+◌, ◌≤◌, true, length,
 ghost use Rattle.rules.specs.Plt.{plt_answer, plt_bytes, padding, displacement};
 ghost use Rattle.rules.specs.Records.{PltWorked};
 
-use elf::{AllowedRange, ByteWidth, Sign};
 use refusal::Refusal;
 
 // endbr64; jmp *{relative GOT address}(%rip); nopw 0x0(%rax,%rax,1)
@@ -15,7 +14,7 @@ const PLT_ENTRY_TEMPLATE: &[u8] =
 // Writes a PLT entry that jumps through the GOT entry. Refusals: 8 where the buffer isn't 16 bytes
 // long, which changes nothing; 9 where the displacement doesn't fit 32 bits, which leaves the blank
 // template.
-#[tactic(auto, using(rules::proofs::Records::plt_worked), unfolding(rules::specs::Plt::plt_answer, rules::specs::Plt::plt_bytes, rules::specs::Plt::template, rules::specs::Plt::in_reach, rules::specs::Range::byte_range))]
+#[tactic(auto, using(rules::proofs::Records::plt_worked), unfolding(rules::specs::Plt::plt_answer, rules::specs::Plt::plt_bytes, rules::specs::Plt::template, rules::specs::Plt::in_reach, rules::specs::Range::byte_range, rules::specs::Range::signed64))]
 pub fn write_plt_entry(
     plt_entry: &mut [u8],
     got_address: u64,
@@ -30,11 +29,10 @@ pub fn write_plt_entry(
     }
     plt_entry.copy_from_slice(PLT_ENTRY_TEMPLATE);
     let displacement = plt_displacement(got_address, plt_address);
-    let offset = elf::as_i64(displacement);
-    if !AllowedRange::from_byte_size(ByteWidth::Four, Sign::Signed).contains(offset) {
+    let Ok(offset) = i32::try_from(displacement.cast_signed()) else {
         return Err(Refusal::PltOutOfReach);
-    }
-    plt_entry[6..10].copy_from_slice(&(offset as i32).to_le_bytes());
+    };
+    plt_entry[6..10].copy_from_slice(&offset.to_le_bytes());
     Ok(())
 }
 
@@ -65,8 +63,8 @@ fn fill_nop_padding(buf: &mut [u8])
     fill(buf, 0xcc);
 }
 
-// The Rust's `buf.fill(byte)`. Up to 64 bytes go by two runs of stores, which may overlap: most
-// padding is short, and a call of memset costs more than that.
+// The Rust's `buf.fill(byte)`. Up to 64 bytes, as most padding has, go by two runs of stores, which may overlap.
+// Kept: in one call of the library's `fill` 7 to 64 bytes take 47 to 50 instructions, where this takes 30 and the Rust 28 to 31.
 fn fill(buf: &mut [u8], byte: u8)
     ensures { buf.new ≡ replicate (length buf.old) byte }
 {
@@ -90,14 +88,12 @@ fn fill_short(buf: &mut [u8], byte: u8)
     }
 }
 
-// Kept: a loop, which becomes one call of memset; with the library's `fill` a branch and a store of the last byte stand
-// beside the call.
+// A call of its own, so that a short padding sets up no frame.
+#[inline(never)]
 fn fill_long(buf: &mut [u8], byte: u8)
     ensures { buf.new ≡ replicate (length buf.old) byte }
 {
-    for place in buf {
-        *place = byte;
-    }
+    buf.fill(byte);
 }
 
 // A run of K bytes at each end.

@@ -1,4 +1,4 @@
-// elf_x86_64.rs: Relaxation and its accessors, and what new_relaxation answers.
+// elf_x86_64.rs: Relaxation and its accessors.
 #![tactic(auto)]
 
 ghost use Rattle.std.specs.Prelude.{◌≡◌};

@@ -1,4 +1,4 @@
-// Exported to C and Rust: relaxing one record. include/jitamoro.h says the same in C. The functions take any arguments; a
+// Exported to C and Rust: relaxing one record. include/jitamoro.h says the same in C. The function takes any arguments; a
 // slice is passed as a pointer and a length. In an answer a refusal is 0, or a number of document 01, and then every other
 // field is 0.
 // Kept: C passes a record's fields one by one and has a refusal as its number.

@@ -9,10 +9,13 @@ ghost use Rattle.rules.specs.Record.{output_kind_of, flag_number};
 ghost use Rattle.rules.specs.Range.{contains, within, unchecked};
 ghost use Rattle.rules.specs.Types.{lookup, dynamic_type};
 ghost use Rattle.rules.specs.Plt.{plt_answer, plt_bytes, padding};
+ghost use Rattle.output_kind.specs.Output.{output_answer};
+ghost use Rattle.value_flags.specs.Flags.{flags_answer};
 ghost use Rattle.jitamoro_tables.specs.Layout.{output_layout, flags_layout, relocation_layout, info_layout};
 
 use elf::{AllowedRange, DynamicRelocationKind, RelocationKindInfo};
 use output_kind::OutputKind;
+use refusal::Refusal;
 use value_flags::ValueFlags;
 
 #[repr(C)]
@@ -30,18 +33,26 @@ pub struct OutputKindAnswer {
 pub extern "C" fn jitamoro_output_kind(number: u8) -> OutputKindAnswer
     ensures { result ≡ output_layout (output_kind_of number) }
 {
-    match OutputKind::try_from(number) {
-        Ok(kind) => OutputKindAnswer {
-            refusal: 0,
-            is_executable: kind.is_executable(),
-            is_static_executable: kind.is_static_executable(),
-            is_position_independent: kind.is_position_independent(),
-            has_fixed_load_address: kind.has_fixed_load_address(),
-        },
-        Err(refusal) => OutputKindAnswer {
-            refusal: refusal.number(),
-            ..OutputKindAnswer::default()
-        },
+    OutputKindAnswer::from(OutputKind::try_from(number))
+}
+
+impl From<Result<OutputKind, Refusal>> for OutputKindAnswer {
+    ghost from_gives = { λ kind answer. answer ≡ output_layout (output_answer kind) };
+
+    fn from(kind: Result<OutputKind, Refusal>) -> OutputKindAnswer {
+        match kind {
+            Ok(kind) => OutputKindAnswer {
+                refusal: 0,
+                is_executable: kind.is_executable(),
+                is_static_executable: kind.is_static_executable(),
+                is_position_independent: kind.is_position_independent(),
+                has_fixed_load_address: kind.has_fixed_load_address(),
+            },
+            Err(refusal) => OutputKindAnswer {
+                refusal: refusal.number(),
+                ..OutputKindAnswer::default()
+            },
+        }
     }
 }
 
@@ -61,19 +72,27 @@ pub struct ValueFlagsAnswer {
 pub extern "C" fn jitamoro_value_flags(number: u8) -> ValueFlagsAnswer
     ensures { result ≡ flags_layout (flag_number number) }
 {
-    match ValueFlags::try_from(number) {
-        Ok(flags) => ValueFlagsAnswer {
-            refusal: 0,
-            is_dynamic: flags.is_dynamic(),
-            is_ifunc: flags.is_ifunc(),
-            has_link_time_address: flags.has_link_time_address(),
-            is_absolute: flags.is_absolute(),
-            is_interposable: flags.is_interposable(),
-        },
-        Err(refusal) => ValueFlagsAnswer {
-            refusal: refusal.number(),
-            ..ValueFlagsAnswer::default()
-        },
+    ValueFlagsAnswer::from(ValueFlags::try_from(number))
+}
+
+impl From<Result<ValueFlags, Refusal>> for ValueFlagsAnswer {
+    ghost from_gives = { λ flags answer. answer ≡ flags_layout (flags_answer flags) };
+
+    fn from(flags: Result<ValueFlags, Refusal>) -> ValueFlagsAnswer {
+        match flags {
+            Ok(flags) => ValueFlagsAnswer {
+                refusal: 0,
+                is_dynamic: flags.is_dynamic(),
+                is_ifunc: flags.is_ifunc(),
+                has_link_time_address: flags.has_link_time_address(),
+                is_absolute: flags.is_absolute(),
+                is_interposable: flags.is_interposable(),
+            },
+            Err(refusal) => ValueFlagsAnswer {
+                refusal: refusal.number(),
+                ..ValueFlagsAnswer::default()
+            },
+        }
     }
 }
 
@@ -141,10 +160,7 @@ pub extern "C" fn jitamoro_allowed_range_contains(
 ) -> bool
     ensures { result ≡ contains (cond checked (within min max) unchecked) value }
 {
-    if checked {
-        return AllowedRange::new(min, max).contains(value);
-    }
-    AllowedRange::no_check().contains(value)
+    AllowedRange { checked, min, max }.contains(value)
 }
 
 // The dynamic relocation type of a kind, by its place among the ten of DynamicRelocationKind, or 0
@@ -153,10 +169,7 @@ pub extern "C" fn jitamoro_allowed_range_contains(
 pub extern "C" fn jitamoro_x86_64_r_type(kind: u32) -> u32
     ensures { result ≡ dynamic_type kind }
 {
-    match DynamicRelocationKind::from_number(kind) {
-        Some(kind) => kind.x86_64_r_type(),
-        None => 0,
-    }
+    DynamicRelocationKind::from_number(kind).map_or(0, |kind| kind.x86_64_r_type())
 }
 
 // Writes a PLT entry of 16 bytes: 0, or refusal 8 (nothing changed) or 9 (the blank template).
@@ -169,10 +182,10 @@ pub extern "C" fn jitamoro_write_plt_entry(
     ensures value { result ≡ refusal_of (plt_answer plt_entry.old got_address plt_address) }
     ensures plt_entry_after { plt_entry.new ≡ plt_bytes plt_entry.old got_address plt_address }
 {
-    match elf_x86_64_plt::write_plt_entry(plt_entry, got_address, plt_address) {
-        Ok(()) => 0,
-        Err(refusal) => refusal.number(),
-    }
+    elf_x86_64_plt::write_plt_entry(plt_entry, got_address, plt_address).map_or_else(
+        Refusal::number,
+        |()| 0,
+    )
 }
 
 // Pads with CC in executable sections, 00 elsewhere.

@@ -1,4 +1,4 @@
--- A plain record is counted as its step: NoOp where its answer's head isn't 0, none where it is.
+-- A plain record is counted as its step: NoOp, or none where its answer is none's.
 -- Assumes nothing.
 use Rattle.std.specs.Prelude.{Some, Ok, if◌then◌else◌}
 use Rattle.std.specs.Bool.{then_some}
@@ -7,13 +7,13 @@ use mathlib.Core.Bool.{Bool, true, false, not, cond, ◌||◌, ◌&&◌}
 use mathlib.Core.List.{List}
 use Prim.Native.Nat.{ℕ}
 use lib.Dec.{eqb}
-use Rattle.laws.proofs.Bools.{both}
+use Rattle.std.proofs.lemmas.Bool.{and_parts}
 use Rattle.rules.specs.declared.Relocation.{Relocation}
 use Rattle.rules.specs.Record.{link_limit, is_s}
 use Rattle.rules.specs.Rewrite.{claims, relaxing}
 use Rattle.relax.specs.Answers.{relaxed_of}
 use Rattle.answers.specs.declared.RelaxedAnswer.{RelaxedAnswer}
-use Rattle.answers.specs.Layout.{relaxed_layout}
+use Rattle.answers.specs.Layout.{relaxed_layout, is_none}
 use Rattle.pass.specs.declared.Pass.{Pass}
 use Rattle.pass.specs.Pass.{took}
 use Rattle.pass.specs.Answers.{step_of, step}
@@ -32,9 +32,9 @@ module _ (p : Pass) (sec : List ℕ) (r : Relocation) (a : RelaxedAnswer) (e : S
   by plain true false = refl
   by plain false m = refl
 
-  pub counted_plain : counted (if not (eqb a.choice.head 0) then 9 else none_at) 0 t ≡ tallied t (step p sec r).stepped.step
+  pub counted_plain : counted (if not (is_none a.choice) then 9 else none_at) 0 t ≡ tallied t (step p sec r).stepped.step
   unfolding step
   counted_plain =
       let k = settled (calm p r.offset && is_plain sec r) _ a e in
-      let b = both (calm p r.offset) (is_plain sec r) k.0 in
-      rw (k.1 ∙ (settles sec r b.1).0, plain_step p sec r b.0 b.1) (by b.1 (chosen_by r) (eqb r.r_type 2 || is_s r.output_kind))
+      let b = and_parts (calm p r.offset) (is_plain sec r) k.0 in
+      rw (k.1 ∙ (settles sec r b.1).0, plain_step sec r b.1 p b.0) (by b.1 (chosen_by r) (eqb r.r_type 2 || is_s r.output_kind))

@@ -2,44 +2,34 @@
 -- Assumes nothing.
 use Rattle.std.specs.Prelude.{Ok, Err}
 use mathlib.Core.Path.{◌≡◌, refl}
-use mathlib.Core.Bool.{Bool, true, false, not}
-use Prim.Native.Nat.{ℕ}
-use lib.Dec.{eqb}
-use Rattle.rules.specs.Answer.{Answer, flag}
-use Rattle.rules.specs.Rewrite.{unrelaxed, relaxed}
+use mathlib.Core.Bool.{Bool, true, false}
+use Rattle.rules.specs.Answer.{Answer}
 use Rattle.rules.specs.declared.Relocation.{Relocation}
 use Rattle.pass.specs.declared.Pass.{Pass}
-use Rattle.pass.specs.Pass.{Accepted, took, skipped, stepping, pass_left, ending, ended_pass}
+use Rattle.pass.specs.Pass.{Accepted, stepping, pass_left, ending, ended_pass}
 use Rattle.pass.specs.Answers.{step_of, step}
-use Rattle.jitamoro_pass.specs.Layout.{pass_of, written, words_left, words_ended}
-use Rattle.jitamoro_tally.specs.Held.{four, Held}
+use Rattle.jitamoro_pass.specs.declared.PassWords.{PassWords}
+use Rattle.jitamoro_pass.specs.Layout.{pass_of, words_of, words_left, words_ended}
+use Rattle.jitamoro_tally.specs.Held.{Held}
 
-flags : (l w : ℕ) (s e : Bool) → ◌≡◌ {A = Pass} (record { last = l; window = w; skip = not (eqb (flag s) 0); ended = not (eqb (flag e) 0) }) (record { last = l; window = w; skip = s; ended = e })
-flags l w true true = refl
-flags l w true false = refl
-flags l w false true = refl
-flags l w false false = refl
+read_back : (p : Pass) → pass_of (words_of p) ≡ p
+read_back p = by p.skip p.ended where
+  by : (s e : Bool) → let q : Pass = record p { skip = s; ended = e } in pass_of (words_of q) ≡ q
+  by true true = refl
+  by true false = refl
+  by false true = refl
+  by false false = refl
 
-module _ (a b c d : ℕ) where
-  read_back : (p : Pass) → pass_of (written (four a b c d) p) ≡ p
-  read_back p = flags p.last p.window p.skip p.ended
+after : (w : PassWords) (r : Relocation) (x : Answer Accepted)
+    → let q = pass_left (pass_of w) r x in pass_of (words_left w (record { pass = q; step = step_of x })) ≡ q
+unfolding pass_left
+after w r (Err n) = refl
+after w r (Ok x) = read_back _
 
-  after : (r : Relocation) (x : Answer Accepted)
-      → let q = pass_left (pass_of (four a b c d)) r x in pass_of (words_left (four a b c d) (record { pass = q; step = step_of x })) ≡ q
-  unfolding pass_left
-  after r (Err n) = refl
-  after r (Ok skipped) = read_back _
-  after r (Ok (took unrelaxed)) = read_back _
-  after r (Ok (took (relaxed k t m y))) = read_back _
-
-  ends : (x : Answer Unit) → pass_of (words_ended (four a b c d) x) ≡ ended_pass (pass_of (four a b c d)) x
-  ends (Ok u) = refl
-  ends (Err n) = refl
+ends : (w : PassWords) (x : Answer Unit) → pass_of (words_ended w x) ≡ ended_pass (pass_of w) x
+ends w (Ok u) = refl
+ends w (Err n) = refl
 
 pub held : Held
 unfolding step
-held =
-    record {
-      steps = λ a b c d sec r. after a b c d r (stepping (pass_of (four a b c d)) sec r);
-      ends = λ a b c d. ends a b c d (ending (pass_of (four a b c d)));
-    }
+held = record { steps = λ w sec r. after w r (stepping (pass_of w) sec r); ends = λ w. ends w (ending (pass_of w)) }

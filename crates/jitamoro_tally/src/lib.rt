@@ -1,17 +1,20 @@
 // Exported to C and Rust: a pass's step with the tally, whose 22 figures the caller holds beside the pass.
 // include/jitamoro.h says the same in C. The functions take any arguments.
-// Kept: C passes a record's fields one by one, the pass as four words, and has a refusal as its number.
+// Kept: C passes a record's fields one by one, and has a refusal as its number.
+// Kept: the step is jitamoro_pass_step's but for the counts. Over a counter both would need a trait of two methods, each
+// with its law, for fewer lines than that.
 #![tactic(auto)]
 
 ghost use Rattle.std.specs.Prelude.{◌≡◌};
 ghost use Rattle.rules.specs.Record.{relocation};
 ghost use Rattle.rules.specs.Meaning.{SameMeaning};
 ghost use Rattle.pass.specs.Answers.{step};
-ghost use Rattle.jitamoro_pass.specs.Layout.{pass_of, words_left, step_layout};
+ghost use Rattle.jitamoro_pass.specs.Layout.{pass_of, words_step};
 ghost use Rattle.tally.specs.Tally.{fresh_tally, tallied};
 ghost use Rattle.jitamoro_tally.specs.Held.{Held};
 
-use jitamoro_pass::StepAnswer;
+use jitamoro_pass::{PassWords, StepAnswer};
+use pass::Pass;
 use rules::Relocation;
 use tally::Tally;
 
@@ -23,15 +26,15 @@ pub extern "C" fn jitamoro_tally_fresh() -> Tally
     ensures figures_value { result.figures ≡ fresh_tally }
     ensures held { Held }
 {
-    Tally { figures: [0; 22] }
+    Tally::fresh()
 }
 
 // Takes one record as jitamoro_pass_step does, and counts it. A refusal changes no figure.
 #[unsafe(no_mangle)]
 #[tactic(auto, using(rules::proofs::Theorem::same_meaning_of))]
 pub extern "C" fn jitamoro_tally_step(
-    pass: &mut [u64; 4],
-    tally: &mut [u64; 22],
+    pass: &mut PassWords,
+    tally: &mut Tally,
     r_type: u32,
     section: &mut [u8],
     offset: u64,
@@ -41,10 +44,8 @@ pub extern "C" fn jitamoro_tally_step(
     address: u64,
     addend: i64,
 ) -> StepAnswer
-    ensures value { result ≡ step_layout (step (pass_of pass.old) section.old (relocation r_type offset flags output_kind executable address addend)).stepped.step }
-    ensures pass_after { pass.new ≡ words_left pass.old (step (pass_of pass.old) section.old (relocation r_type offset flags output_kind executable address addend)).stepped }
-    ensures tally_after { tally.new ≡ tallied tally.old (step (pass_of pass.old) section.old (relocation r_type offset flags output_kind executable address addend)).stepped.step }
-    ensures section_after { section.new ≡ (step (pass_of pass.old) section.old (relocation r_type offset flags output_kind executable address addend)).section }
+    ensures step { (result, pass.new, section.new) ≡ words_step pass.old section.old (relocation r_type offset flags output_kind executable address addend) }
+    ensures tally_after { tally.new.figures ≡ tallied tally.old.figures (step (pass_of pass.old) section.old (relocation r_type offset flags output_kind executable address addend)).stepped.step }
     ensures same_meaning { SameMeaning section.old }
 {
     let rel = Relocation {
@@ -56,30 +57,15 @@ pub extern "C" fn jitamoro_tally_step(
         address,
         addend,
     };
-    let before = jitamoro_pass::read(pass);
-    match jitamoro_pass::settle(before, section, rel) {
+    match pass.settle(section, rel) {
         Some(answer) => {
-            tally::count_no_op(tally, answer.choice.head != 0);
-            jitamoro_pass::pass_by(pass, before, rel, answer)
+            tally.count_no_op(!answer.choice.is_none());
+            pass.pass_by(offset, answer)
         }
-        None => take(pass, tally, section, rel),
+        None => {
+            let stepped = Pass::from(*pass).step(section, rel);
+            tally.count(stepped.step);
+            pass.finish(stepped)
+        }
     }
-}
-
-// Any record.
-fn take(
-    words: &mut [u64; 4],
-    tally: &mut [u64; 22],
-    section: &mut [u8],
-    rel: Relocation,
-) -> StepAnswer
-    ensures value { result ≡ step_layout (step (pass_of words.old) section.old rel).stepped.step }
-    ensures words_after { words.new ≡ words_left words.old (step (pass_of words.old) section.old rel).stepped }
-    ensures tally_after { tally.new ≡ tallied tally.old (step (pass_of words.old) section.old rel).stepped.step }
-    ensures section_after { section.new ≡ (step (pass_of words.old) section.old rel).section }
-    ensures same_meaning { SameMeaning section.old }
-{
-    let stepped = jitamoro_pass::read(words).step(section, rel);
-    tally::count(tally, stepped.step);
-    jitamoro_pass::finish(words, stepped)
 }

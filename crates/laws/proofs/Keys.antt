@@ -1,33 +1,12 @@
--- What the last arm of a `match` on a number knows: the number is none of the keys of the arms before it.
+-- Numbers as keys: two functions that a computed test finds equal at each below a bound, and what holds of a number that a test finds equal.
 -- Assumes nothing.
-use mathlib.Core.Path.{◌≡◌, refl, ◌∙◌, sym, subst}
+use mathlib.Core.Path.{◌≡◌, refl, sym, subst}
 use mathlib.Core.Bool.{Bool, true, false}
 use mathlib.Core.List.{List, [], ◌∷◌, map}
 use Prim.Native.Nat.{ℕ, zero, suc, ◌<◌}
 use native.Mathlib.Omega.{arith}
 use lib.Dec.{T, eqb, eqb→eq}
-use borrow.Author.Tests.{ne_eqb, eqb-true, eqb-false}
-
--- the arm's own tuple, nested to the left: the keys in the opposite order of the arms
-abbrev pub Away : ℕ → List ℕ → Type 0
-Away t [] = Unit
-Away t (k ∷ ks) = Away t ks × (t ≡ k → ⊥)
-
-abbrev or : Bool → Bool → Bool
-or true b = true
-or false b = b
-
-abbrev pub among : ℕ → List ℕ → Bool
-among x [] = false
-among x (k ∷ ks) = or (eqb x k) (among x ks)
-
--- a number that is none of the keys differs from each of them
-pub away : (t x : ℕ) (ks : List ℕ) → Away t ks → T (among x ks) → eqb t x ≡ false
-away t x [] a h = absurd h
-away t x (k ∷ ks) a h = by (eqb x k) (eqb-true x k) (away t x ks a.0) h where
-  by : (b : Bool) → (b ≡ true → x ≡ k) → (T (among x ks) → eqb t x ≡ false) → T (or b (among x ks)) → eqb t x ≡ false
-  by true e f g = ne_eqb t x (λ p. a.1 (p ∙ e refl))
-  by false e f g = f g
+use borrow.Author.Tests.{eqb-true, eqb-false}
 
 -- the keys n - 1 down to 0
 abbrev pub down : ℕ → List ℕ

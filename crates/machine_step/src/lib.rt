@@ -305,37 +305,49 @@ impl Field {
     }
 }
 
-#[tactic(auto, unfolding(rules::specs::Machine::result))]
-fn operate(op: Op, wide: bool, a: u64, b: u64) -> u64
-    requires { b < machine.size wide }
-    ensures { result ≡ machine.result (op_of op) wide a b }
-{
-    match op {
-        Op::Add => low(wide, a.wrapping_add(b)),
-        Op::Sub => low(wide, a.wrapping_sub(b)),
-    }
+// An operation at a size, and its two operands.
+#[derive(Clone, Copy)]
+struct Operation {
+    op: Op,
+    wide: bool,
+    a: u64,
+    b: u64,
+    ghost a_fits: { a < machine.size wide },
+    ghost b_fits: { b < machine.size wide },
 }
 
-// The flags after an operation with the result r.
-#[tactic(auto, unfolding(rules::specs::Machine::result, rules::specs::Machine::same_sign, rules::specs::Machine::flags_after))]
-fn flags_after(op: Op, wide: bool, a: u64, b: u64, r: u64) -> Flags
-    requires operands { (a < machine.size wide) × (b < machine.size wide) }
-    requires r { r ≡ machine.result (op_of op) wide a b }
-    ensures { flags_of result ≡ machine.flags_after (op_of op) wide a b r }
-{
-    let same = negative(wide, a) == negative(wide, b);
-    let turned = negative(wide, a) != negative(wide, r);
-    let (cf, af, of) = match op {
-        Op::Add => (r < a, 16 <= a % 16 + b % 16, same && turned),
-        Op::Sub => (a < b, a % 16 < b % 16, !same && turned),
-    };
-    Flags {
-        cf,
-        pf: parity(r),
-        af,
-        zf: r == 0,
-        sf: negative(wide, r),
-        of,
+impl Operation {
+    #[tactic(auto, unfolding(rules::specs::Machine::result))]
+    fn outcome(self) -> u64
+        ensures { result ≡ machine.result (op_of self.op) self.wide self.a self.b }
+    {
+        match self.op {
+            Op::Add => low(self.wide, self.a.wrapping_add(self.b)),
+            Op::Sub => low(self.wide, self.a.wrapping_sub(self.b)),
+        }
+    }
+
+    // The flags after it.
+    #[tactic(auto, unfolding(rules::specs::Machine::result, rules::specs::Machine::same_sign, rules::specs::Machine::flags_after))]
+    fn flags(self) -> Flags
+        ensures { let r = machine.result (op_of self.op) self.wide self.a self.b in flags_of result ≡ machine.flags_after (op_of self.op) self.wide self.a self.b r }
+    {
+        let Operation { op, wide, a, b } = self;
+        let r = self.outcome();
+        let same = negative(wide, a) == negative(wide, b);
+        let turned = negative(wide, a) != negative(wide, r);
+        let (cf, af, of) = match op {
+            Op::Add => (r < a, 16 <= a % 16 + b % 16, same && turned),
+            Op::Sub => (a < b, a % 16 < b % 16, !same && turned),
+        };
+        Flags {
+            cf,
+            pf: parity(r),
+            af,
+            zf: r == 0,
+            sf: negative(wide, r),
+            of,
+        }
     }
 }
 
@@ -365,16 +377,14 @@ impl State {
         }
     }
 
-    // An operation on the operands a and b, with its target, and whether it sets the flags.
+    // An operation with its target, and whether it sets the flags.
     #[tactic(auto, unfolding(rules::specs::Machine::exec))]
-    fn exec(&mut self, op: Op, wide: bool, target: Option<Register>, sets: bool, a: u64, b: u64)
-        requires { (a < machine.size wide) × (b < machine.size wide) }
-        ensures { (m : ℕ → ℕ) → machine.exec (op_of op) wide (target_of target) sets a b (state_of self.old m) ≡ state_of self.new m }
+    fn exec(&mut self, operation: Operation, target: Option<Register>, sets: bool)
+        ensures { (m : ℕ → ℕ) → machine.exec (op_of operation.op) operation.wide (target_of target) sets operation.a operation.b (state_of self.old m) ≡ state_of self.new m }
     {
-        let r = operate(op, wide, a, b);
-        self.store(target, r);
+        self.store(target, operation.outcome());
         if sets {
-            self.flags = flags_after(op, wide, a, b, r);
+            self.flags = operation.flags();
         }
     }
 
@@ -411,7 +421,7 @@ fn perform(action: Action, field: Field, slot: u64, mut state: State) -> Stepped
         } => {
             let a = low(wide, state.reg(first));
             let b = field.operand(source, wide, slot);
-            state.exec(op, wide, target, sets, a, b);
+            state.exec(Operation { op, wide, a, b }, target, sets);
         }
         Action::Call(source) => {
             push = Some(state.push(next));

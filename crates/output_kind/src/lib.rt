@@ -63,24 +63,22 @@ impl OutputKind {
     pub fn is_position_independent(self) -> bool
         ensures { result ≡ is_p (output_number self) }
     {
-        match self {
-            OutputKind::SharedObject => true,
-            OutputKind::DynamicExecutable(model) | OutputKind::StaticExecutable(model) => {
-                model == RelocationModel::PositionIndependent
-            }
-            OutputKind::PartialLink => false,
-        }
+        matches!(
+            self,
+            OutputKind::SharedObject
+                | OutputKind::DynamicExecutable(RelocationModel::PositionIndependent)
+                | OutputKind::StaticExecutable(RelocationModel::PositionIndependent)
+        )
     }
 
     // F
     pub fn has_fixed_load_address(self) -> bool
         ensures { result ≡ is_f (output_number self) }
     {
-        match self {
-            OutputKind::StaticExecutable(model) | OutputKind::DynamicExecutable(model) => {
-                model == RelocationModel::Fixed
-            }
-            OutputKind::SharedObject | OutputKind::PartialLink => false,
-        }
+        matches!(
+            self,
+            OutputKind::StaticExecutable(RelocationModel::Fixed)
+                | OutputKind::DynamicExecutable(RelocationModel::Fixed)
+        )
     }
 }

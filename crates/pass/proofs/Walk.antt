@@ -22,7 +22,7 @@ use Rattle.rules.specs.Choose.{Choice, choosing}
 use Rattle.rules.specs.Rewrite.{Rewritten, unrelaxed, relaxed, claims, relaxing, after_relaxing}
 use Rattle.x86_64_kind.proofs.Windows.{within}
 use Rattle.rules.proofs.Kept.{Kept, kept}
-use Rattle.laws.proofs.Bools.{both}
+use Rattle.std.proofs.lemmas.Bool.{and_parts}
 use Rattle.pass.specs.declared.Pass.{Pass}
 use Rattle.pass.specs.Pass.{is_pending, is_type0, passing, Accepted, took, skipped, overlaps, checked, clearing, stepping, pass_left, bytes_after, ending}
 use Rattle.pass.specs.Walk.{Walk, answer, stepped, walk, answers, offset_of, offsets, Part, part_of, parts, Rising, Apart, Inside, Outside, is_refused, sets_skip, between, last_at, Walks}
@@ -222,7 +222,7 @@ waiting w r (Ok (took (relaxed k t m x))) s q b = absurd (false≢true (sym s.2.
 waits : (w : Walk) (rs : List Relocation) → is_pending w.pass ≡ true → between w rs ≡ true → walk w rs ≡ last_at (walk w rs).pass.last w
 waits w [] q b = refl
 waits w (r ∷ rs) q b =
-    let h = both (is_type0 r || is_refused (answer w r)) (between (stepped w r) rs) b in
+    let h = and_parts (is_type0 r || is_refused (answer w r)) (between (stepped w r) rs) b in
     let s = waiting w r (answer w r) (sound w r) q h.0 in
     waits (stepped w r) rs (ap (λ (v : Walk). is_pending v.pass) s ∙ q) h.1 ∙ ap (last_at (walk (stepped w r) rs).pass.last) s
 

@@ -17,7 +17,7 @@ use rules::Relocation;
 // The last offset, the end of the last window that isn't empty, whether a skip is pending, and
 // whether the pass has ended.
 #[repr(C)]
-#[derive(Clone, Copy, Debug, PartialEq, Eq, Hash)]
+#[derive(Clone, Copy, Debug, Default, PartialEq, Eq, Hash)]
 pub struct Pass {
     pub last: u64,
     pub window: u64,
@@ -32,7 +32,8 @@ pub enum Step {
     Skipped,
 }
 
-// Kept: a pass beside each answer, here and in `Ended`, since a refusal hands the pass back unchanged.
+// Kept: a pass beside each answer, here and in `Ended`, and not within Ok, since a refusal hands the pass back unchanged
+// (document 01); and two structs, since definitions read by the answers' names, which one over the answer's type hasn't.
 #[derive(Clone, Copy, Debug, PartialEq, Eq, Hash)]
 pub struct Stepped {
     pub pass: Pass,
@@ -54,12 +55,7 @@ impl Pass {
         ensures walks { Walks }
         ensures walk_worked { WalkWorked }
     {
-        Pass {
-            last: 0,
-            window: 0,
-            skip: false,
-            ended: false,
-        }
+        Pass::default()
     }
 
     // Takes one record. Refusals 21, 1, 2, 3, 4, 22, 6, 23.

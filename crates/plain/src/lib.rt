@@ -1,6 +1,7 @@
 // Relaxing a plain record, by its numbers alone: most records of an object have a type below 9, for which no byte is
 // looked at. There is no branch in what is computed, since flags and types come in no order.
-// Kept: numbers in place of flags, output kinds and kinds, since a branch on each costs plain records what they are to save.
+// Kept: flags and output kinds as numbers. By their enums, as `relax` has them, a record of libc.a takes 131 instructions and
+// 1.5 of the Rust's time, where this takes 90 and 0.93 to 1.01 of it.
 #![tactic(auto)]
 
 ghost use Rattle.std.specs.Prelude.{◌≡◌, ◌≤◌, IfSome};
@@ -16,6 +17,7 @@ ghost use Rattle.plain.specs.Plain.{is_plain, mask_of, settled_of};
 use answers::{ChoiceAnswer, RelaxedAnswer};
 use rules::Relocation;
 use std::hint::select_unpredictable;
+use x86_64_kind::RelaxationKind;
 
 // What relaxing answers for a plain record; no byte of its section changes.
 #[tactic(auto, using(crate::proofs::Numbers::settled_by, crate::proofs::Numbers::kept_by, crate::proofs::Numbers::choice_by))]
@@ -44,8 +46,17 @@ fn weighed(rel: Relocation) -> RelaxedAnswer
     let chosen = (mask(rel.r_type, rel.executable) >> rel.flags) & 1 == 1;
     let is_pc32 = rel.r_type == object::R_X86_64_PC32;
     let mandatory = is_pc32 || matches!(rel.output_kind, 0 | 1);
-    // Chosen, kind 9, and mandatory or not.
-    let head = u64::from_le_bytes([0, 1, 9, 0, u8::from(mandatory), 0, 0, 0]);
+    // Chosen, the kind, and mandatory or not.
+    let head = u64::from_le_bytes([
+        0,
+        1,
+        RelaxationKind::NoOp.number(),
+        0,
+        u8::from(mandatory),
+        0,
+        0,
+        0,
+    ]);
     let new_type = select_unpredictable(is_pc32, object::R_X86_64_PLT32, object::R_X86_64_PC32);
     RelaxedAnswer {
         choice: ChoiceAnswer {

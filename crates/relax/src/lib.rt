@@ -21,8 +21,9 @@ pub struct Relaxed {
     pub moved: Moved,
 }
 
-// Kept: section and record are two parameters, since a section is lent for many records.
 // Relaxes one record in its section. Refusals 1, 2, 3, 4, 6; a refusal and none change nothing.
+// Kept: section and record as two parameters, which is plainer: a section is lent for many records, so a struct of both
+// would be made anew for each.
 #[tactic(auto, using(rules::proofs::Theorem::same_meaning_of, crate::proofs::Relaxing::of_refusal, crate::proofs::Relaxing::of_none))]
 pub fn relax(section_bytes: &mut [u8], rel: Relocation) -> Result<Option<Relaxed>, Refusal>
     ensures value { result ≡ relaxed_of (relaxing link_limit section_bytes.old rel) }

@@ -2,7 +2,8 @@
 
 // The case program: reads a case file from standard input, relaxes each record alone, and prints a
 // line for each. At most 65,536 bytes are read.
-// Kept: the io library's calls on fixed buffers. std's readers end at an error without saying how much was read.
+// Kept: fixed buffers, since nothing is put on the heap, and the io library's calls on them, since std's readers end at an
+// error without saying how much was read.
 const STDIN_FILENO: i32 = 0;
 
 const STDOUT_FILENO: i32 = 1;

@@ -42,27 +42,23 @@ enum Function {
     Fill,
 }
 
-impl TryFrom<u8> for Function {
-    type Error = ();
-
-    fn try_from(number: u8) -> Result<Function, ()> {
+impl Function {
+    fn from_number(number: u8) -> Option<Function> {
         match number {
-            1 => Ok(Function::OutputKind),
-            2 => Ok(Function::ValueFlags),
-            3 => Ok(Function::RelocationFromRaw),
-            4 => Ok(Function::X86RType),
-            5 => Ok(Function::WritePltEntry),
-            6 => Ok(Function::FillSectionPadding),
-            7 => Ok(Function::Contains),
-            8 => Ok(Function::FromByteSize),
-            9 => Ok(Function::WriteToBuffer),
-            10 => Ok(Function::Fill),
-            _ => Err(()),
+            1 => Some(Function::OutputKind),
+            2 => Some(Function::ValueFlags),
+            3 => Some(Function::RelocationFromRaw),
+            4 => Some(Function::X86RType),
+            5 => Some(Function::WritePltEntry),
+            6 => Some(Function::FillSectionPadding),
+            7 => Some(Function::Contains),
+            8 => Some(Function::FromByteSize),
+            9 => Some(Function::WriteToBuffer),
+            10 => Some(Function::Fill),
+            _ => None,
         }
     }
-}
 
-impl Function {
     // Whether the port answers as a record says.
     fn agrees(self, line: Line) -> bool {
         match self {
@@ -218,7 +214,7 @@ fn fill_agrees(line: Line) -> bool {
     })
 }
 
-// Kept: alike in replay_relax, which says why.
+// Kept: alike in the four programs that replay; replay_relax says why it is no plainer as one.
 fn main(rt: HostRuntime) -> std::io::Result<()> {
     // How many records of each function agree, and how many of any function don't.
     let mut agree = [
@@ -236,9 +232,9 @@ fn main(rt: HostRuntime) -> std::io::Result<()> {
     .map(Count::new);
     let mut differ = Count::new("differ");
     hex_lines::for_each_line::<81, _>(|line| {
-        let function = Function::try_from(line.byte(0));
-        let agrees = function.is_ok_and(|function| function.agrees(line));
-        if let Ok(function) = function {
+        let function = Function::from_number(line.byte(0));
+        let agrees = function.is_some_and(|function| function.agrees(line));
+        if let Some(function) = function {
             agree[function as usize].more(agrees);
         }
         differ.more(!agrees);

@@ -72,6 +72,7 @@ fn agrees(line: Line) -> bool {
         && step(code) == Some(stepped(line, before))
 }
 
+// Kept: alike in the four programs that replay; replay_relax says why it is no plainer as one.
 fn main(rt: HostRuntime) -> std::io::Result<()> {
     let mut differ = Count::new("differ");
     let count = hex_lines::for_each_line::<623, _>(|line| differ.more(!agrees(line)));

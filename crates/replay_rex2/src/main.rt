@@ -51,6 +51,7 @@ fn agrees(line: Line) -> bool {
         && field == 0x1122_3344
 }
 
+// Kept: alike in the four programs that replay; replay_relax says why it is no plainer as one.
 fn main(rt: HostRuntime) -> std::io::Result<()> {
     let mut differ = Count::new("differ");
     let count = hex_lines::for_each_line::<35, _>(|line| differ.more(!agrees(line)));

@@ -1,7 +1,6 @@
 -- Choosing and then rewriting is relaxing: every kind that is chosen is allowed, and where one was chosen refusals 1 and 2 can't follow, so
 -- that rewriting's 6 is relaxing's.
 -- Assumes nothing.
-use Rattle.refusal.specs.declared.Refusal.{Refusal}
 use Rattle.std.specs.Prelude.{Ok, Err}
 use mathlib.Core.Path.{◌≡◌, refl, subst}
 use mathlib.Core.Bool.{Bool, true, false, cond, ◌||◌}
@@ -18,6 +17,7 @@ use Rattle.refusal.specs.declared.Refusal.TheVariants.{WindowNotInside}
 use Rattle.rules.specs.Record.{Limit, too_long, past, flags_above, kind_above}
 use Rattle.rules.specs.Choose.{Choice, none, chosen, choose, choosing}
 use Rattle.rules.specs.Rewrite.{Rewritten, Relaxed, relaxed, rewrite, rewriting, claims, relax_chosen, relaxing}
+use Rattle.std.proofs.lemmas.Bool.{cond_both}
 use Rattle.laws.proofs.Bools.{either}
 use Rattle.laws.proofs.Keys.{is}
 use Rattle.rules.proofs.Walked.{walk}
@@ -27,7 +27,7 @@ Allowed none = Unit {0}
 Allowed (chosen k t m) = allowed k ≡ true
 
 -- an instruction offset of 3 or 4
-at : (P : ℕ → Type 0) (n : ℕ) → P 3 → P 4 → T (eqb n 3 || eqb n 4) → P n
+pub at : (P : ℕ → Type 0) (n : ℕ) → P 3 → P 4 → T (eqb n 3 || eqb n 4) → P n
 at P n p q = either (eqb n 3) (eqb n 4) (is P n 3 p) (is P n 4 q)
 
 allowed_choice : (sec : List ℕ) (r : Relocation) → Allowed (choose sec r)
@@ -55,10 +55,6 @@ Passes l sec r (Ok none) = Unit {0}
 Passes l sec r (Ok (chosen k t m)) = (too_long l sec ≡ false) × (past sec r.offset ≡ false) × (allowed k ≡ true)
 
 module _ (l : Limit) (sec : List ℕ) (r : Relocation) where
-  test : (b : Bool) (n : Refusal) (a : Answer Choice) → (b ≡ false → Passes l sec r a) → Passes l sec r (cond b (Err n) a)
-  test true n a h = tt
-  test false n a h = h refl
-
   given_choice : (c : Choice) → too_long l sec ≡ false → past sec r.offset ≡ false → Allowed c → Passes l sec r (Ok c)
   given_choice none e p h = tt
   given_choice (chosen k t m) e p h = (e, p, h)
@@ -66,10 +62,10 @@ module _ (l : Limit) (sec : List ℕ) (r : Relocation) where
   passes : Passes l sec r (choosing l sec r)
   unfolding choosing
   passes =
-      test (too_long l sec) l.refusal _
-      (λ e. test (past sec r.offset) _ _
-      (λ p. test (flags_above r.flags) _ _
-      (λ _. test (kind_above r.output_kind) _ _ (λ _. given_choice (choose sec r) e p (allowed_choice sec r)))))
+      cond_both (too_long l sec) _ _ (Passes l sec r) (λ _. tt) λ e.
+      cond_both (past sec r.offset) _ _ (Passes l sec r) (λ _. tt) λ p.
+      cond_both (flags_above r.flags) _ _ (Passes l sec r) (λ _. tt) λ _.
+      cond_both (kind_above r.output_kind) _ _ (Passes l sec r) (λ _. tt) λ _. given_choice (choose sec r) e p (allowed_choice sec r)
 
 -- rewriting's answer, with the choice
 abbrev pub then : RelaxationKind → ℕ → Bool → Answer Rewritten → Answer Relaxed

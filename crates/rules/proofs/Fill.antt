@@ -2,7 +2,7 @@
 -- Assumes nothing.
 use Rattle.std.specs.Prelude.{Ok, Err}
 use mathlib.Core.Path.{◌≡◌, refl, sym, ap, ◌∙◌, subst}
-use mathlib.Core.Bool.{Bool, true, false, not, cond, ◌||◌}
+use mathlib.Core.Bool.{Bool, true, false, cond, ◌||◌}
 use mathlib.Core.List.{List}
 use Prim.Native.Nat.{ℕ, zero, suc, ◌+◌, ◌-◌, ◌*◌, ◌/◌, ◌%◌, ◌^◌, ◌≤◌, ◌<◌}
 use native.Mathlib.Omega.{arith}
@@ -13,6 +13,7 @@ use lib.Dec.{T, eqb, ltb, lit<}
 use lib.IntN.{ℤ}
 use lib.ListN.{length, get_or}
 use lib.Seq.{sets, length-sets, ext_get_or}
+use Rattle.std.proofs.lemmas.Bool.{not-false, cond_both}
 use borrow.Author.Tests.{le-ltb, ltb-true, ltb-false, eq-eqb, eqb-true}
 use Rattle.laws.proofs.Bools.{either, never}
 use Rattle.laws.proofs.Keys.{is}
@@ -26,6 +27,8 @@ use Rattle.rules.specs.Types.{lookup, earlier_types, later_types}
 use Rattle.rules.specs.Choose.{in_range}
 use Rattle.rules.specs.Rewrite.{word_of, relocated, Holds}
 use Rattle.rules.specs.Fill.{fills, field_value, unknown, cut, outside, Fill, unfilled, filled, filling, FilledAt, loaded_at, sign_of, Fills}
+use Rattle.rules.specs.Machine.{signed32}
+use Rattle.rules.proofs.Arith.{signed_mod}
 use Rattle.rules.proofs.Widths.{four, keeps}
 
 -- ---- bytes, low first
@@ -110,11 +113,8 @@ relocated-lt t v p a = go (eqb t 2) where
 
 -- four bytes that are read back are the low part of what is read
 read_low : (s : Sign) (b : ℕ) → b < 2 ^ 32 → read_back 4 s b % 2 ^ 32 ≡ b
-unfolding read_back
-read_low signed b h = go (ltb b (2 ^ 31)) where
-  go : (c : Bool) → cond c b (b + (2 ^ 64 - 2 ^ 32)) % 2 ^ 32 ≡ b
-  go true = omega arith
-  go false = omega arith
+unfolding read_back signed32
+read_low signed b h = signed_mod b h
 read_low unsigned b h = omega arith
 
 -- ---- an answer, by the tests that led to it
@@ -123,25 +123,17 @@ holds_true : (b : Bool) → T b → b ≡ true
 holds_true true t = refl
 holds_true false t = absurd t
 
-is_true : (b : Bool) → not b ≡ false → b ≡ true
-is_true true e = refl
-is_true false e = never (cc)
-
 module _ (l : Limit) (sec : List ℕ) (f : Field) where
-  test : (P : Answer Fill → Type 0) (b : Bool) {x y : Answer Fill} → (b ≡ true → P x) → (b ≡ false → P y) → P (cond b x y)
-  test P true p q = p refl
-  test P false p q = q refl
-
   walk : (P : Answer Fill → Type 0) → (too_long l sec ≡ true → P (Err l.refusal)) → P (Err OffsetAboveLength) → P (Err UnknownType)
       → (cut sec f ≡ true → P (Err FieldNotInside)) → (fills f.r_type ≡ true → outside f ≡ true → P (Err ValueOutOfRange))
       → (cut sec f ≡ false → outside f ≡ false → P (Ok (filled (sets sec f.offset (low_first 4 (field_value f)))))) → P (Ok unfilled)
       → P (filling l sec f)
   unfolding filling
   walk P long over strange short far done none =
-      test P (too_long l sec) long λ _.
-      test P (past sec f.offset) (λ _. over) λ _.
-      test P (unknown f.r_type) (λ _. strange) λ _.
-      test P (fills f.r_type) (λ k. test P (cut sec f) short λ i. test P (outside f) (far k) (done i)) (λ _. none)
+      cond_both (too_long l sec) _ _ P long λ _.
+      cond_both (past sec f.offset) _ _ P (λ _. over) λ _.
+      cond_both (unknown f.r_type) _ _ P (λ _. strange) λ _.
+      cond_both (fills f.r_type) _ _ P (λ k. cond_both (cut sec f) _ _ P short λ i. cond_both (outside f) _ _ P (far k) (done i)) (λ _. none)
 
   leaves : (base : ℕ) → loaded_at f base → (new : List ℕ) → filling l sec f ≡ Ok (filled new) → FilledAt f base sec new
   leaves base p new =
@@ -150,7 +142,7 @@ module _ (l : Limit) (sec : List ℕ) (f : Field) where
       (λ i o z.
       let v = same_place f.r_type f.value f.address (base + f.offset) f.addend p in
       let e : sets sec f.offset (low_first 4 (field_value f)) ≡ new = cc in
-      let r = is_true (in_range f.r_type (signed64 (field_value f))) o in
+      let r = not-false (in_range f.r_type (signed64 (field_value f))) o in
       let b = ltb-false (length sec) (f.offset + 4) i in
       rw (← e) (record { range = rw (← v) (subst T (sym r) tt); holds = rw (← v) (stored_holds sec f.offset (field_value f) b) }))
       (λ z. never (cc))

@@ -8,16 +8,14 @@ use lib.Dec.{T, leb, leb→le}
 use lib.ListN.{length, get_or}
 use Rattle.rules.specs.Answer.{Answer}
 use Rattle.rules.specs.Record.{link_limit}
-use Rattle.rules.specs.Range.{byte_range, signed64}
-use Rattle.rules.specs.Types.{lookup, earlier_types, later_types}
-use Rattle.rules.specs.Choose.{given, pick, in_range, rex_absolute, mov_load, branch_to, tpoff_load, ld_call, is_rex2_w, desc_choice, rex_gotpcrelx, gotpcrelx, gotpcrel, gottpoff, choose, choosing}
-use Rattle.rules.specs.Rewrite.{rewriting, Relaxed, unrelaxed, relaxed, rex_moved, rex2_moved, claims, relax_chosen, relaxing}
+use Rattle.rules.specs.Rewrite.{rewriting, Relaxed, unrelaxed, relaxed}
 use Rattle.rules.specs.Fill.{Fill, unfilled, filled, filling, after_filling}
 use Rattle.rules.specs.Machine.{signed32, field4, read4, read8, write8, put, result, exec, push, by_digit, via_rip, on_register, opcode, decode, step_at, rip_relative}
 use Rattle.rules.specs.Meaning.{covered, head, begins, start, Instruction}
 use Rattle.rules.specs.Instances.{Case, state_of, relaxing_of, field_of, filling_of, is_filled, meets, Instance, MeaningWorked}
 use Rattle.laws.proofs.Bools.{and_left, and_right}
 use Rattle.rules.proofs.Fill.{exact}
+use Rattle.rules.proofs.OnLiterals.{relaxing_on_literals}
 use Rattle.rules.proofs.Theorem.{same_meaning_of}
 
 module _ (c : Case) (i : Instruction c.section c.record') where
@@ -66,7 +64,7 @@ instance c t =
     (relaxing_of c) refl (and_right (a && b && d && e && f) g t)
 
 pub worked : MeaningWorked
-unfolding byte_range signed64 earlier_types later_types lookup given pick in_range rex_absolute mov_load branch_to tpoff_load ld_call is_rex2_w desc_choice rex_gotpcrelx gotpcrelx gotpcrel gottpoff choose choosing rewriting rex_moved rex2_moved claims relax_chosen relaxing filling after_filling signed32 field4 read4 read8 write8 put result exec push by_digit via_rip on_register opcode decode step_at
+unfolding relaxing_on_literals rewriting filling after_filling signed32 field4 read4 read8 write8 put result exec push by_digit via_rip on_register opcode decode step_at
 worked =
     record {
       all = refl;

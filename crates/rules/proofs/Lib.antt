@@ -1,5 +1,6 @@
 pub mod Psabi
 pub mod Widths
+pub mod OnLiterals
 pub mod Records
 pub mod Runs
 pub mod Fill

@@ -147,7 +147,7 @@ pub data Start (sec : List ℕ) (off : ℕ) : ℕ → Type 0 where
   rex : 3 ≤ off → T (is_rex_w (get_or sec (off - 3) 0)) → Start sec off 3
   rex2 : 4 ≤ off → T (eqb (get_or sec (off - 4) 0) 0xD5) → T (is_rex_w (get_or sec (off - 3) 0)) → Start sec off 4
 
-bounds : {sec : List ℕ} {off n : ℕ} → Start sec off n → (2 ≤ n) × (n ≤ off)
+pub bounds : {sec : List ℕ} {off n : ℕ} → Start sec off n → (2 ≤ n) × (n ≤ off)
 bounds (plain h) = (lit< tt, h)
 bounds (rex h v) = (lit< tt, h)
 bounds (rex2 h d v) = (lit< tt, h)

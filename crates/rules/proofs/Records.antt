@@ -3,11 +3,11 @@ use mathlib.Core.Path.{refl}
 use Rattle.rules.specs.Range.{byte_range, signed64}
 use Rattle.rules.specs.Types.{earlier_types, later_types, lookup}
 use Rattle.rules.specs.Plt.{template, displacement, in_reach, plt_answer, plt_bytes}
-use Rattle.rules.specs.Choose.{given, pick, in_range, rex_absolute, mov_load, branch_to, tpoff_load, ld_call, is_rex2_w, desc_choice, rex_gotpcrelx, gotpcrelx, gotpcrel, gottpoff, code6_gottpoff, tlsgd, tlsld, tlsdesc, choose, choosing, needs_fallback}
-use Rattle.rules.specs.Rewrite.{rex_moved, rex2_moved, rex_copied, evex_moved, claims, relax_chosen, relaxing}
+use Rattle.rules.specs.Choose.{in_range, needs_fallback}
 use Rattle.rules.specs.Fill.{filling, after_filling}
 use Rattle.rules.specs.Records.{TypesWorked, FallbackWorked, PltWorked, FillWorked}
 use Rattle.rules.specs.Starred.{StarredHold}
+use Rattle.rules.proofs.OnLiterals.{relaxing_on_literals}
 
 pub types_worked : TypesWorked
 unfolding byte_range earlier_types later_types lookup
@@ -26,5 +26,5 @@ unfolding byte_range signed64 earlier_types later_types lookup in_range filling 
 fill_worked = record { order = refl; others = refl; unsigned32 = refl; signed32 = refl; wraps = refl; ends = refl; kept = refl }
 
 pub starred_hold : StarredHold
-unfolding byte_range signed64 earlier_types later_types lookup given pick in_range rex_absolute mov_load branch_to tpoff_load ld_call is_rex2_w desc_choice rex_gotpcrelx gotpcrelx gotpcrel gottpoff code6_gottpoff tlsgd tlsld tlsdesc choose choosing rex_moved rex2_moved rex_copied evex_moved claims relax_chosen relaxing template displacement in_reach plt_answer plt_bytes
+unfolding relaxing_on_literals template displacement in_reach plt_answer plt_bytes
 starred_hold = record { hold = refl }

@@ -23,9 +23,10 @@ use Rattle.rules.specs.Meaning.{head, begins, start, Instruction, slot_value, Al
 use Rattle.rules.specs.Machine.{State, step}
 use Rattle.laws.proofs.Bools.{either, never}
 use Rattle.laws.proofs.Keys.{is}
+use Rattle.rules.proofs.Chosen.{at}
 use Rattle.rules.proofs.Fill.{exact}
 use Rattle.rules.proofs.Forms.{addend_for}
-use Rattle.rules.proofs.Places.{old_ops, new_ops, digits, new_types, Start, plain, rex, rex2, lea_at, absolute_at, mov_at, call_at, jmp_at}
+use Rattle.rules.proofs.Places.{old_ops, new_ops, digits, new_types, Start, bounds, plain, rex, rex2, lea_at, absolute_at, mov_at, call_at, jmp_at}
 use Rattle.rules.proofs.Walked.{Prefixed, Bare, Cases, walk}
 
 -- what is shown of a record's new type and rewritten section, whatever fills the field
@@ -53,11 +54,8 @@ begins_d5 type b = go (eqb type 41) (eqb type 43 || eqb type 44) where
   go false true e t = t
   go false false e t = absurd (omega arith)
 
-not-six : (n : ℕ) → T (eqb n 3 || eqb n 4) → eqb n 6 ≡ false
-not-six n = either (eqb n 3) (eqb n 4) (is (λ (n : ℕ). eqb n 6 ≡ false) n 3 refl) (is (λ (n : ℕ). eqb n 6 ≡ false) n 4 refl)
-
 three : (n : ℕ) → T (eqb n 3 || eqb n 4) → T (leb 3 n)
-three n = either (eqb n 3) (eqb n 4) (is (λ (n : ℕ). T (leb 3 n)) n 3 tt) (is (λ (n : ℕ). T (leb 3 n)) n 4 tt)
+three n = at (λ (n : ℕ). T (leb 3 n)) n tt tt
 
 back : (b off : ℕ) → b ≤ off → off - b + b ≡ off
 back b off h = omega arith
@@ -73,11 +71,6 @@ module _ (sec : List ℕ) (r : Relocation) (i : Instruction sec r) where
       (λ t. let e = p.starts ∙ eqb→eq n 3 t in is (Start sec off) n 3 (rex (rw e at i.low) p.rex) t)
       (λ t. let e = p.starts ∙ eqb→eq n 4 t in is (Start sec off) n 4 (rex2 (rw e at i.low) (begins_d5 r.r_type (get_or sec (off - 4) 0) e (rw e at i.first)) p.rex) t) p.offset
 
-  low : {n : ℕ} → Start sec off n → (2 ≤ n) × (n ≤ off)
-  low (plain h) = (lit< tt, h)
-  low (rex h v) = (lit< tt, h)
-  low (rex2 h d v) = (lit< tt, h)
-
   -- the jth operation to an absolute field
   absolute : (n j : ℕ) → j < 5 → Prefixed sec r n → get_or sec (off - 2) 0 ≡ get_or old_ops j 0
       → Anyhow sec r (get_or new_types j 0) (record {
@@ -86,12 +79,12 @@ module _ (sec : List ℕ) (r : Relocation) (i : Instruction sec r) where
         addend = addend_for (get_or new_types j 0);
       })
   absolute n j k p o base s new c =
-      let l : off - 3 + 3 ≡ off = (let h = low (starts n p) in let k = leb→le 3 n (three n p.offset) in back 3 off (omega arith)) in
+      let l : off - 3 + 3 ≡ off = (let h = bounds (starts n p) in let k = leb→le 3 n (three n p.offset) in back 3 off (omega arith)) in
       rw p.starts (absolute_at sec new off base s i.whole (starts n p) (three n p.offset) j k o i.rip (rw l at c))
 
   lea : (n : ℕ) → Start sec off n → head r.r_type ≡ n → r.addend ≡ negsuc 3 → get_or sec (off - 2) 0 ≡ 0x8B → Anyhow sec r 2 (rewrite MovIndirectToLea sec off r.addend)
   lea n b e a o base s new c =
-      let l : off - 2 + 2 ≡ off = (let h = low b in back 2 off (omega arith)) in
+      let l : off - 2 + 2 ≡ off = (let h = bounds b in back 2 off (omega arith)) in
       rw e (lea_at sec new off base s i.whole b o i.rip (rw (l, a) at c))
 
   -- type 41: the law of a kind at an instruction that starts 2 before its field
@@ -113,7 +106,7 @@ module _ (sec : List ℕ) (r : Relocation) (i : Instruction sec r) where
         cmp = λ n m p o. absolute n 2 (lit< tt) p o;
         lea = λ n m p a o. lea n (starts n p) p.starts a o;
         thread_mov = λ n m p o. absolute n 3 (lit< tt) p o;
-        thread_add = λ n m p o. rw (not-six n p.offset) (absolute n 4 (lit< tt) p o);
+        thread_add = λ n m p o. rw (at (λ (n : ℕ). eqb n 6 ≡ false) n refl refl p.offset) (absolute n 4 (lit< tt) p o);
         bare_mov = λ m b o. bare b _ _ λ low base s new c. let l : off - 2 + 2 ≡ off = omega arith in mov_at sec new off base s i.whole low o i.rip (rw l at c);
         bare_lea = λ m b o. let e : head r.r_type ≡ 2 = rw b.type in lea 2 (plain (rw e at i.low)) e b.addend o;
         call = λ m b o q. bare b _ _ λ low base s new c. let l : off - 2 + 2 ≡ off = omega arith in call_at sec new off base s i.whole low o q (rw (l, b.addend) at c);

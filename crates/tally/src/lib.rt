@@ -10,11 +10,10 @@ ghost use Rattle.tally.specs.Worked.{TallyWorked};
 
 use pass::Step;
 use refusal::Refusal;
+use x86_64_kind::RelaxationKind;
 
 // Places of the figures: those of the kinds are 0 to 18.
 // Kept: numbers, since the figures are 22 words of the caller's.
-const NO_OP: usize = 9;
-
 const NONE: usize = 19;
 
 const SKIPPED: usize = 20;
@@ -22,7 +21,7 @@ const SKIPPED: usize = 20;
 const BYTES: usize = 21;
 
 #[repr(C)]
-#[derive(Clone, Copy, Debug, PartialEq, Eq, Hash)]
+#[derive(Clone, Copy, Debug, Default, PartialEq, Eq, Hash)]
 pub struct Tally {
     pub figures: [u64; 22],
 }
@@ -36,46 +35,44 @@ impl Tally {
         ensures tallies { Tallies }
         ensures tally_worked { TallyWorked }
     {
-        Tally { figures: [0; 22] }
+        Tally::default()
     }
-}
 
-// Counts a step. A refused one changes no figure.
-#[tactic(auto, unfolding(crate::specs::Tally::tallied))]
-pub fn count(figures: &mut [u64; 22], step: Result<Step, Refusal>)
-    ensures { figures.new ≡ tallied figures.old step }
-{
-    match step {
-        Ok(Step::Took(None)) => add(figures, NONE, 0),
-        Ok(Step::Took(Some(relaxed))) => {
-            let kind = relaxed.relaxation.kind;
-            let window = relaxed.relaxation.claim();
-            add(figures, kind.number() as usize, window.size);
+    // Counts a step. A refused one changes no figure.
+    #[tactic(auto, unfolding(crate::specs::Tally::tallied))]
+    pub fn count(&mut self, step: Result<Step, Refusal>)
+        ensures { self.new.figures ≡ tallied self.old.figures step }
+    {
+        match step {
+            Ok(Step::Took(None)) => self.add(NONE, 0),
+            Ok(Step::Took(Some(relaxed))) => {
+                let kind = relaxed.relaxation.kind;
+                let window = relaxed.relaxation.claim();
+                self.add(kind.number() as usize, window.size);
+            }
+            Ok(Step::Skipped) => self.add(SKIPPED, 0),
+            Err(_) => {}
         }
-        Ok(Step::Skipped) => add(figures, SKIPPED, 0),
-        Err(_) => {}
     }
-}
 
-// Counts a record that became NoOp or none; which of them is no branch in the machine code.
-pub fn count_no_op(figures: &mut [u64; 22], chosen: bool)
-    ensures { figures.new ≡ counted (if chosen then (shape_of NoOp).number else none_at) 0 figures.old }
-{
-    add(figures, no_op_or_none(chosen), 0);
-}
+    // Counts a record that became NoOp or none; which of them is no branch in the machine code.
+    pub fn count_no_op(&mut self, chosen: bool)
+        ensures { self.new.figures ≡ counted (if chosen then (shape_of NoOp).number else none_at) 0 self.old.figures }
+    {
+        let place = if chosen {
+            RelaxationKind::NoOp.number() as usize
+        } else {
+            NONE
+        };
+        self.add(place, 0);
+    }
 
-fn no_op_or_none(chosen: bool) -> usize
-    ensures value { result ≡ (if chosen then (shape_of NoOp).number else none_at) }
-    ensures upper_bound { result < 21 }
-{
-    if chosen { NO_OP } else { NONE }
-}
-
-// A record more at a place, and the bytes of its window.
-fn add(figures: &mut [u64; 22], place: usize, bytes: u64)
-    requires { place < 21 }
-    ensures { figures.new ≡ counted place bytes figures.old }
-{
-    figures[place] = figures[place].wrapping_add(1);
-    figures[BYTES] = figures[BYTES].wrapping_add(bytes);
+    // A record more at a place, and the bytes of its window.
+    fn add(&mut self, place: usize, bytes: u64)
+        requires { place < 21 }
+        ensures { self.new.figures ≡ counted place bytes self.old.figures }
+    {
+        self.figures[place] = self.figures[place].wrapping_add(1);
+        self.figures[BYTES] = self.figures[BYTES].wrapping_add(bytes);
+    }
 }

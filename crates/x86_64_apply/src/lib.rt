@@ -21,7 +21,7 @@ pub struct Moved {
     pub addend: i64,
 }
 
-// Rewrites the bytes of one instruction. Refusals 1, 2, 5, 6, which change nothing.
+// Rewrites the bytes of one instruction or sequence. Refusals 1, 2, 5, 6, which change nothing.
 #[tactic(auto, unfolding(rules::specs::Rewrite::rewriting, rules::specs::Rewrite::after_rewriting))]
 pub fn apply(
     kind: RelaxationKind,
@@ -52,6 +52,8 @@ pub fn apply(
 }
 
 // Where the field lies in a section of a length, and its addend.
+// Kept: the section beside it, and not in it. Lent with it, each writer would have to say that offset and addend stay, and a
+// length in place of `len` that it stays.
 #[derive(Clone, Copy, Debug)]
 struct Field {
     len: u64,
@@ -64,14 +66,13 @@ struct Field {
 impl Field {
     // Where the field lies after rewriting, and its addend; refusal 6 where the window doesn't lie inside.
     fn moved(self, shape: Shape) -> Result<Moved, Refusal>
-        requires { shape.field ≤ 18 }
         ensures { result ≡ moved_by shape self.len self.offset self.addend }
     {
         if !shape.window.is_inside(self.len, self.offset) {
             return Err(Refusal::WindowNotInside);
         }
         Ok(Moved {
-            offset: self.offset - shape.window.back + shape.field,
+            offset: self.offset - shape.window.back + u64::from(shape.field),
             addend: if shape.clears { 0 } else { self.addend },
         })
     }
@@ -79,7 +80,6 @@ impl Field {
     // A fixed byte string in place of the window.
     fn replace(self, shape: Shape, section_bytes: &mut [u8], fixed: &[u8]) -> Result<Moved, Refusal>
         requires lent { length section_bytes.old ≡ self.len }
-        requires near { shape.field ≤ 18 }
         requires whole { length fixed.now ≡ shape.window.size }
         ensures value { result ≡ moved_by shape self.len self.offset self.addend }
         ensures section_bytes_after { section_bytes.new ≡ cond (inside shape.window self.len self.offset) (sets section_bytes.old (begin shape.window self.offset) fixed.now) section_bytes.old }
@@ -92,11 +92,32 @@ impl Field {
         );
         Ok(moved)
     }
+
+    // An operand that becomes a register, after a REX or REX2 prefix, whose register bits move.
+    fn set_prefixed(
+        self,
+        shape: Shape,
+        section_bytes: &mut [u8],
+        inst_offset: u8,
+        opcode: Opcode,
+    ) -> Result<Moved, Refusal>
+        requires lent { length section_bytes.old ≡ self.len }
+        requires back { 3 ≤ shape.window.back }
+        ensures value { result ≡ moved_by shape self.len self.offset self.addend }
+        ensures section_bytes_after { section_bytes.new ≡ cond (inside shape.window self.len self.offset) (to_absolute inst_offset opcode.byte (opcode.own / 8) section_bytes.old self.offset) section_bytes.old }
+    {
+        let moved = self.moved(shape)?;
+        let at = self.offset as usize;
+        section_bytes[at - 3] = prefix_moved(inst_offset, section_bytes[at - 3]);
+        set_register_form(section_bytes, at, opcode);
+        Ok(moved)
+    }
 }
 
 // By one match over the kinds as in the Rust.
-// Kept: a kind is written out where its shape is asked for, so that the compiler knows the window in each arm; one test
-// ahead of the match, by `kind.shape()`, took 27 instructions a call more.
+// Kept: each arm asks for its shape and tests its window. Asked ahead of the match, relaxing the mix takes 286 instructions a
+// call where this takes 254, and tested there rewriting takes 94 where this takes 67. The last arm by MOV joined to the first,
+// relaxing by the two takes 309 and 322 where this takes 253 and 263.
 fn rewrite(kind: RelaxationKind, section_bytes: &mut [u8], field: Field) -> Result<Moved, Refusal>
     requires { length section_bytes.old ≡ field.len }
     ensures value { result ≡ moved_by (shape_of kind) field.len field.offset field.addend }
@@ -105,110 +126,103 @@ fn rewrite(kind: RelaxationKind, section_bytes: &mut [u8], field: Field) -> Resu
     let at = field.offset as usize;
     match kind {
         // Since the value is an address, a PC-relative mov becomes a PC-relative lea.
-        RelaxationKind::MovIndirectToLea => field.replace(
-            RelaxationKind::MovIndirectToLea.shape(),
-            section_bytes,
-            b"\x8d",
-        ),
+        RelaxationKind::MovIndirectToLea => field.replace(kind.shape(), section_bytes, b"\x8d"),
         RelaxationKind::MovIndirectToAbsolute => {
-            let moved = field.moved(RelaxationKind::MovIndirectToAbsolute.shape())?;
+            let moved = field.moved(kind.shape())?;
             set_register_form(section_bytes, at, MOV);
             Ok(moved)
         }
-        RelaxationKind::RexMovIndirectToAbsolute(inst_offset) => {
-            let moved = field.moved(RelaxationKind::RexMovIndirectToAbsolute(3).shape())?;
-            set_prefixed(section_bytes, at, inst_offset, MOV);
-            Ok(moved)
-        }
+        RelaxationKind::RexMovIndirectToAbsolute(inst_offset) => field.set_prefixed(
+            kind.shape(),
+            section_bytes,
+            inst_offset,
+            MOV,
+        ),
         RelaxationKind::RexAddIndirectToAbsolute(6) => {
-            let moved = field.moved(RelaxationKind::RexAddIndirectToAbsolute(6).shape())?;
+            let moved = field.moved(kind.shape())?;
             set_evex_add(section_bytes, at);
             Ok(moved)
         }
-        RelaxationKind::RexAddIndirectToAbsolute(inst_offset) => {
-            let moved = field.moved(RelaxationKind::RexAddIndirectToAbsolute(3).shape())?;
-            set_prefixed(section_bytes, at, inst_offset, ADD);
-            Ok(moved)
-        }
+        RelaxationKind::RexAddIndirectToAbsolute(inst_offset) => field.set_prefixed(
+            kind.shape(),
+            section_bytes,
+            inst_offset,
+            ADD,
+        ),
         RelaxationKind::RexAddIndirectToLea(_) => {
-            let moved = field.moved(RelaxationKind::RexAddIndirectToLea(3).shape())?;
+            let moved = field.moved(kind.shape())?;
             set_lea(section_bytes, at);
             Ok(moved)
         }
-        RelaxationKind::RexSubIndirectToAbsolute(inst_offset) => {
-            let moved = field.moved(RelaxationKind::RexSubIndirectToAbsolute(3).shape())?;
-            set_prefixed(section_bytes, at, inst_offset, SUB);
-            Ok(moved)
-        }
-        RelaxationKind::RexCmpIndirectToAbsolute(inst_offset) => {
-            let moved = field.moved(RelaxationKind::RexCmpIndirectToAbsolute(3).shape())?;
-            set_prefixed(section_bytes, at, inst_offset, CMP);
-            Ok(moved)
-        }
+        RelaxationKind::RexSubIndirectToAbsolute(inst_offset) => field.set_prefixed(
+            kind.shape(),
+            section_bytes,
+            inst_offset,
+            SUB,
+        ),
+        RelaxationKind::RexCmpIndirectToAbsolute(inst_offset) => field.set_prefixed(
+            kind.shape(),
+            section_bytes,
+            inst_offset,
+            CMP,
+        ),
         RelaxationKind::CallIndirectToRelative => field.replace(
-            RelaxationKind::CallIndirectToRelative.shape(),
+            kind.shape(),
             section_bytes,
             b"\x67\xe8",
         ),
         RelaxationKind::JmpIndirectToRelative => field.replace(
-            RelaxationKind::JmpIndirectToRelative.shape(),
+            kind.shape(),
             section_bytes,
             b"\xe9\x00\x00\x00\x00\x90",
         ),
         // mov %fs:0,%rax; lea {offset}(%rax),%rax
         RelaxationKind::TlsGdToLocalExec => field.replace(
-            RelaxationKind::TlsGdToLocalExec.shape(),
+            kind.shape(),
             section_bytes,
             b"\x64\x48\x8b\x04\x25\x00\x00\x00\x00\x48\x8d\x80",
         ),
         // mov %fs:0,%rax; lea {offset}(%rax),%rax; nopw (%rax,%rax)
         RelaxationKind::TlsGdToLocalExecLarge => field.replace(
-            RelaxationKind::TlsGdToLocalExecLarge.shape(),
+            kind.shape(),
             section_bytes,
             b"\x64\x48\x8b\x04\x25\x00\x00\x00\x00\x48\x8d\x80\x00\x00\x00\x00\x66\x0f\x1f\x44\x00\x00",
         ),
         // mov %fs:0,%rax; add *x,%rax
         RelaxationKind::TlsGdToInitialExec => field.replace(
-            RelaxationKind::TlsGdToInitialExec.shape(),
+            kind.shape(),
             section_bytes,
             b"\x64\x48\x8b\x04\x25\x00\x00\x00\x00\x48\x03\x05",
         ),
         // mov %fs:0,%rax
         RelaxationKind::TlsLdToLocalExec => field.replace(
-            RelaxationKind::TlsLdToLocalExec.shape(),
+            kind.shape(),
             section_bytes,
             b"\x66\x66\x66\x64\x48\x8b\x04\x25\x00\x00\x00\x00",
         ),
         // mov %fs:0,%rax
         RelaxationKind::TlsLdToLocalExecNoPlt => field.replace(
-            RelaxationKind::TlsLdToLocalExecNoPlt.shape(),
+            kind.shape(),
             section_bytes,
             b"\x66\x66\x66\x66\x64\x48\x8b\x04\x25\x00\x00\x00\x00",
         ),
         // nopw (%rax,%rax); mov %fs:0,%rax
         RelaxationKind::TlsLdToLocalExec64 => field.replace(
-            RelaxationKind::TlsLdToLocalExec64.shape(),
+            kind.shape(),
             section_bytes,
             b"\x66\x66\x66\x66\x2e\x0f\x1f\x84\x00\x00\x00\x00\x00\x64\x48\x8b\x04\x25\x00\x00\x00\x00",
         ),
-        RelaxationKind::TlsDescToLocalExec(inst_offset) => {
-            let moved = field.moved(RelaxationKind::TlsDescToLocalExec(3).shape())?;
-            set_prefixed(section_bytes, at, inst_offset, MOV);
-            Ok(moved)
-        }
+        RelaxationKind::TlsDescToLocalExec(inst_offset) => field.set_prefixed(
+            kind.shape(),
+            section_bytes,
+            inst_offset,
+            MOV,
+        ),
         // lea becomes mov, with the same prefix and addressing mode.
-        RelaxationKind::TlsDescToInitialExec => field.replace(
-            RelaxationKind::TlsDescToInitialExec.shape(),
-            section_bytes,
-            b"\x8b",
-        ),
+        RelaxationKind::TlsDescToInitialExec => field.replace(kind.shape(), section_bytes, b"\x8b"),
         // xchg %ax,%ax
-        RelaxationKind::SkipTlsDescCall => field.replace(
-            RelaxationKind::SkipTlsDescCall.shape(),
-            section_bytes,
-            b"\x66\x90",
-        ),
-        RelaxationKind::NoOp => field.moved(RelaxationKind::NoOp.shape()),
+        RelaxationKind::SkipTlsDescCall => field.replace(kind.shape(), section_bytes, b"\x66\x90"),
+        RelaxationKind::NoOp => field.moved(kind.shape()),
     }
 }
 
@@ -244,15 +258,6 @@ fn set_register_form(section_bytes: &mut [u8], offset: usize, opcode: Opcode)
     let mod_rm = section_bytes[offset - 1];
     section_bytes[offset - 2] = opcode.byte;
     section_bytes[offset - 1] = x86_64_mod_rm::register_form(mod_rm) + opcode.own;
-}
-
-// The same after a REX or REX2 prefix, whose register bits move.
-fn set_prefixed(section_bytes: &mut [u8], offset: usize, inst_offset: u8, opcode: Opcode)
-    requires { (3 ≤ offset) × (offset ≤ length section_bytes.old) }
-    ensures { section_bytes.new ≡ to_absolute inst_offset opcode.byte (opcode.own / 8) section_bytes.old offset }
-{
-    section_bytes[offset - 3] = prefix_moved(inst_offset, section_bytes[offset - 3]);
-    set_register_form(section_bytes, offset, opcode);
 }
 
 // The same after an EVEX prefix: add.

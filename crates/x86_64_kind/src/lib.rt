@@ -4,7 +4,6 @@
 
 ghost use Rattle.std.specs.Prelude.{◌≡◌};
 ghost use Rattle.x86_64_kind.specs.Kinds.{inside, shape, shape_of, allowed, allows, skips, is_skip, numbered};
-ghost use Rattle.x86_64_kind.specs.declared.RelaxationKind.TheVariants.{RexAddIndirectToAbsolute};
 
 #[derive(Clone, Copy, Debug, PartialEq, Eq, Hash)]
 pub enum RelaxationKind {
@@ -66,7 +65,7 @@ pub struct Shape {
     pub inst_offset: u8,
     pub window: Window,
     // Where the field lies afterwards, from the window's begin on.
-    pub field: u64,
+    pub field: u8,
     // Whether the addend becomes 0.
     pub clears: bool,
 }
@@ -95,7 +94,7 @@ impl Window {
     }
 }
 
-fn row(number: u8, inst_offset: u8, back: u64, size: u64, field: u64, clears: bool) -> Shape
+fn row(number: u8, inst_offset: u8, back: u64, size: u64, field: u8, clears: bool) -> Shape
     ensures { result ≡ shape number inst_offset back size field clears }
 {
     Shape {
@@ -107,16 +106,6 @@ fn row(number: u8, inst_offset: u8, back: u64, size: u64, field: u64, clears: bo
     }
 }
 
-// "RexAdd with 6 −5 to 0"
-fn add_row(inst_offset: u8) -> Shape
-    ensures { result ≡ shape_of (RexAddIndirectToAbsolute inst_offset) }
-{
-    if inst_offset == 6 {
-        return row(3, inst_offset, 5, 5, 5, true);
-    }
-    row(3, inst_offset, 3, 3, 3, true)
-}
-
 impl RelaxationKind {
     pub fn shape(self) -> Shape
         ensures { result ≡ shape_of self }
@@ -125,7 +114,9 @@ impl RelaxationKind {
             RelaxationKind::MovIndirectToLea => row(0, 0, 2, 1, 2, false),
             RelaxationKind::MovIndirectToAbsolute => row(1, 0, 2, 2, 2, true),
             RelaxationKind::RexMovIndirectToAbsolute(n) => row(2, n, 3, 3, 3, true),
-            RelaxationKind::RexAddIndirectToAbsolute(n) => add_row(n),
+            // "RexAdd with 6 −5 to 0"
+            RelaxationKind::RexAddIndirectToAbsolute(6) => row(3, 6, 5, 5, 5, true),
+            RelaxationKind::RexAddIndirectToAbsolute(n) => row(3, n, 3, 3, 3, true),
             RelaxationKind::RexAddIndirectToLea(n) => row(4, n, 3, 3, 3, true),
             RelaxationKind::RexSubIndirectToAbsolute(n) => row(5, n, 3, 3, 3, true),
             RelaxationKind::RexCmpIndirectToAbsolute(n) => row(6, n, 3, 3, 3, true),
@@ -187,7 +178,7 @@ impl RelaxationKind {
 
     // The kind of a number. A number of no kind gives RexMovIndirectToAbsolute(0), whose instruction
     // offset is not allowed.
-    // Kept: no Option, since C passes any number, and one of no kind is refused only after 1 and 2.
+    // Kept: no Option, which each caller would unwrap to that same kind, so that 5 comes after 1 and 2.
     pub fn from_number(number: u8, inst_offset: u8) -> RelaxationKind
         ensures { result ≡ numbered number inst_offset }
     {

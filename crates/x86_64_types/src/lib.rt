@@ -11,86 +11,54 @@ use elf::{AllowedRange, RelocationKindInfo, RelocationSize};
 use elf_kind::RelocationKind;
 use refusal::Refusal;
 
-// A field's size with the range of its values, as constants: those of `AllowedRange::from_byte_size`
-// but for the two mixed ranges.
-// Kept: written out, since a constant's value can't call `AllowedRange::new` or `no_check`.
+// A field's size with the range of its values, as constants: those of `AllowedRange::from_byte_size` but for the two
+// mixed ranges and that of no bytes.
 #[derive(Clone, Copy, Debug, PartialEq, Eq, Hash)]
 struct RelocSizeAndRange {
     size: RelocationSize,
     range: AllowedRange,
 }
 
-const UNCHECKED: AllowedRange = AllowedRange {
-    checked: false,
-    min: 0,
-    max: 0,
-};
+// Kept: the ranges' fields, since the checker refuses `AllowedRange::new` and `no_check` here: "a call in a constant's value
+// is not supported yet".
+macro_rules! size_and_range {
+    ($byte_size:literal) => {
+        size_and_range!(@ $byte_size, false, 0, 0)
+    };
+    ($byte_size:literal, $min:expr, $max:expr) => {
+        size_and_range!(@ $byte_size, true, $min, $max)
+    };
+    (@ $byte_size:literal, $checked:literal, $min:expr, $max:expr) => {
+        RelocSizeAndRange {
+            size: RelocationSize {
+                byte_size: $byte_size,
+            },
+            range: AllowedRange {
+                checked: $checked,
+                min: $min,
+                max: $max,
+            },
+        }
+    };
+}
 
-const RELOC_8_BYTE_UNSIGNED: RelocSizeAndRange = RelocSizeAndRange {
-    size: RelocationSize { byte_size: 8 },
-    range: UNCHECKED,
-};
+const RELOC_8_BYTE_UNSIGNED: RelocSizeAndRange = size_and_range!(8);
 
 const RELOC_8_BYTE_SIGNED: RelocSizeAndRange = RELOC_8_BYTE_UNSIGNED;
 
-const RELOC_4_BYTE_UNSIGNED: RelocSizeAndRange = RelocSizeAndRange {
-    size: RelocationSize { byte_size: 4 },
-    range: AllowedRange {
-        checked: true,
-        min: 0,
-        max: 0x1_0000_0000,
-    },
-};
+const RELOC_4_BYTE_UNSIGNED: RelocSizeAndRange = size_and_range!(4, 0, 0x1_0000_0000);
 
-const RELOC_4_BYTE_SIGNED: RelocSizeAndRange = RelocSizeAndRange {
-    size: RelocationSize { byte_size: 4 },
-    range: AllowedRange {
-        checked: true,
-        min: -0x8000_0000,
-        max: 0x8000_0000,
-    },
-};
+const RELOC_4_BYTE_SIGNED: RelocSizeAndRange = size_and_range!(4, -0x8000_0000, 0x8000_0000);
 
-const RELOC_2_BYTE_SIGNED: RelocSizeAndRange = RelocSizeAndRange {
-    size: RelocationSize { byte_size: 2 },
-    range: AllowedRange {
-        checked: true,
-        min: -0x8000,
-        max: 0x8000,
-    },
-};
+const RELOC_2_BYTE_SIGNED: RelocSizeAndRange = size_and_range!(2, -0x8000, 0x8000);
 
-const RELOC_1_BYTE_SIGNED: RelocSizeAndRange = RelocSizeAndRange {
-    size: RelocationSize { byte_size: 1 },
-    range: AllowedRange {
-        checked: true,
-        min: -0x80,
-        max: 0x80,
-    },
-};
+const RELOC_1_BYTE_SIGNED: RelocSizeAndRange = size_and_range!(1, -0x80, 0x80);
 
-const RELOC_2_BYTE_MIXED: RelocSizeAndRange = RelocSizeAndRange {
-    size: RelocationSize { byte_size: 2 },
-    range: AllowedRange {
-        checked: true,
-        min: -0x8000,
-        max: 0x1_0000,
-    },
-};
+const RELOC_2_BYTE_MIXED: RelocSizeAndRange = size_and_range!(2, -0x8000, 0x1_0000);
 
-const RELOC_1_BYTE_MIXED: RelocSizeAndRange = RelocSizeAndRange {
-    size: RelocationSize { byte_size: 1 },
-    range: AllowedRange {
-        checked: true,
-        min: -0x80,
-        max: 0x100,
-    },
-};
+const RELOC_1_BYTE_MIXED: RelocSizeAndRange = size_and_range!(1, -0x80, 0x100);
 
-const RELOC_NONE: RelocSizeAndRange = RelocSizeAndRange {
-    size: RelocationSize { byte_size: 0 },
-    range: UNCHECKED,
-};
+const RELOC_NONE: RelocSizeAndRange = size_and_range!(0);
 
 // The supplied x86-64 relocation as RelocationKindInfo, or refusal 7 if the r_type isn't recognised.
 #[tactic(auto, using(rules::proofs::Psabi::conforms, rules::proofs::Psabi::left_out_rows, rules::proofs::Records::types_worked), unfolding(rules::specs::Types::lookup, rules::specs::Types::earlier_types, rules::specs::Range::byte_range))]
@@ -135,6 +103,7 @@ pub fn relocation_from_raw(r_type: u32) -> Result<RelocationKindInfo, Refusal>
 }
 
 // The types that the psABI added for relaxation: GOTPCRELX, and the forms with longer prefixes.
+// Kept: apart from the types above, since no function has more than 40 lines here.
 #[tactic(auto, unfolding(rules::specs::Types::later_types, rules::specs::Range::byte_range))]
 fn later_relocation(r_type: u32) -> Result<RelocationKindInfo, Refusal>
     ensures { result ≡ found_of (find later_types r_type) }

@@ -8,5 +8,5 @@ use Rattle.jitamoro_tally.proofs.jitamoro_tally_step.Goals as goal
 pub returns-in-Some-clause-tally_after : goal.returns-in-Some-clause-tally_after
 returns-in-Some-clause-tally_after c =
     let s : SFits w64 c.args.addend = c.ranges.addend in
-    let e = rw (to_z-of_z w64 _ s, c.read-before.ensures) at c.in-Some.ensures.value in
-    c.count_no_op.ensures ∙ counted_plain _ _ _ _ e c.args.tally.now
+    let e = rw (to_z-of_z w64 _ s) at c.in-Some.ensures.value in
+    c.count_no_op.ensures ∙ rw c.is_none.ensures (counted_plain _ _ _ _ e c.args.tally.now.figures)
