@@ -32,9 +32,9 @@ extern "C" {
 
 /* ---- The version of this header and its archive, as CHANGELOG.md has it */
 
-#define JITAMORO_VERSION "0.6.0"
+#define JITAMORO_VERSION "0.7.0"
 #define JITAMORO_VERSION_MAJOR 0
-#define JITAMORO_VERSION_MINOR 6
+#define JITAMORO_VERSION_MINOR 7
 #define JITAMORO_VERSION_PATCH 0
 
 /* ---- Limits */
@@ -468,22 +468,24 @@ static inline struct jitamoro_step jitamoro_tally_step_record(struct jitamoro_pa
 /* ---- Filling the field */
 
 /*
- * Fills a field of type 2 (PC32), 10 (32), 11 (32S) or 23 (TPOFF32): value + addend, for type 2 less `address`, both
- * wrapping at 2^64; its low four bytes go to `offset`, low byte first, and no other byte changes. `address` is the
- * field's own, where the program will have it: it is taken as it is given, and not computed from the offset. `value` is
- * the symbol's address, and for type 23 its offset from the thread pointer, modulo 2^64. Every other type of
- * jitamoro_relocation_from_raw, 0 (NONE) and 4 (PLT32) among them, is neither filled nor refused. Refusals 1, 2, 7; then,
- * of the four types, 16 and 15: the sum, read as signed, isn't in the type's range (jitamoro_relocation_from_raw).
+ * Fills a field of type 2 (PC32), 10 (32), 11 (32S) or 23 (TPOFF32): value + addend, for type 2 less `place`, both
+ * wrapping at 2^64; its low four bytes go to `offset`, low byte first, and no other byte changes. `value` is the
+ * symbol's address, and for type 23 its offset from the thread pointer, modulo 2^64. `place` is the field's own
+ * address: that of the section plus the offset as it is after relaxing. It is taken as given, and not computed from
+ * `offset`. Refusals 1, 2, 7, 16, and 15 where the sum, read as signed, isn't in the type's range; the instruction
+ * stays as relaxing left it. Every other type of jitamoro_relocation_from_raw, 0 (NONE), 1 (64) and 4 (PLT32) among
+ * them, is left alone, with no test of 16 or 15.
  */
-struct jitamoro_filled jitamoro_fill(uint32_t r_type, uint8_t *section, size_t len, uint64_t offset, uint64_t address,
+struct jitamoro_filled jitamoro_fill(uint32_t r_type, uint8_t *section, size_t len, uint64_t offset, uint64_t place,
                                      uint64_t value, int64_t addend);
 
-/* jitamoro_fill for a record as relaxing or a step has left it: its type, offset and addend, with the address and value
-   that are told. The record's own `address` isn't asked, since for type 23 the value is another. A skipped record, whose
+/* jitamoro_fill for a record as relaxing or a step has left it, in a section that lies at `section_address` in the
+   program. The record's own `address` isn't used for the value: type 23 takes another number. A skipped record, whose
    type is now 0, is left alone. */
-static inline struct jitamoro_filled jitamoro_fill_record(const struct jitamoro_record *record, uint8_t *section,
-                                                          size_t len, uint64_t address, uint64_t value) {
-    return jitamoro_fill(record->r_type, section, len, record->offset, address, value, record->addend);
+static inline struct jitamoro_filled jitamoro_fill_record_in(const struct jitamoro_record *record, uint8_t *section,
+                                                             size_t len, uint64_t section_address, uint64_t value) {
+    return jitamoro_fill(record->r_type, section, len, record->offset, section_address + record->offset, value,
+                         record->addend);
 }
 
 /* ---- Types, ranges, PLT entries, padding */

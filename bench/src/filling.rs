@@ -1,6 +1,7 @@
 //! Times filling a field: by itself, and after relaxing, over the records of real sections. The Rust looks the row up,
 //! computes the value and hands it to wild's `write_to_buffer`; after relaxing it has the row already, as wild does. Both
-//! must leave the same bytes.
+//! must leave the same bytes; over real sections both fill the same types and refuse the same records, so that any archive
+//! will do.
 
 use crate::SEED;
 use crate::driver::Driver;
@@ -15,6 +16,10 @@ use differential::KNOWN_TYPES;
 use differential::Random;
 use differential::fill::FILLED_TYPES;
 use differential::fill::Field;
+use differential::relaxation::SECTION_LIMIT;
+use differential::relaxation::is_inside;
+use differential::relaxation::kind_number;
+use differential::relaxation::window;
 use jitamoro::sys;
 use jitamoro::sys::FilledAnswer;
 use libwild::oracle;
@@ -32,21 +37,21 @@ const SHARE: usize = 64;
 /// Where the first section is loaded.
 const BASE: u64 = 0x40_0000;
 
-type Fill<T> = unsafe extern "C" fn(u32, *mut u8, usize, u64, u64, u64, i64) -> T;
+type Fill = unsafe extern "C" fn(u32, *mut u8, usize, u64, u64, u64, i64) -> FilledAnswer;
 
-/// As the port's answer.
-#[repr(C)]
-struct RustFilled {
-    refusal: u8,
-    filled: bool,
-}
-
-const NONE: RustFilled = RustFilled {
+const NONE: FilledAnswer = FilledAnswer {
     refusal: 0,
     filled: false,
 };
 
-/// Whether the port fills fields of such a row, as far as a row tells: type 26 has that of 2, and isn't filled.
+fn refused(refusal: u8) -> FilledAnswer {
+    FilledAnswer {
+        refusal,
+        filled: false,
+    }
+}
+
+/// Whether a relaxation's new type is one that the port fills: its row tells, as the eight rows differ.
 #[inline(always)]
 fn is_filled(info: &RelocationKindInfo) -> bool {
     let four = matches!(info.size, RelocationSize::ByteSize(4));
@@ -58,18 +63,18 @@ fn is_filled(info: &RelocationKindInfo) -> bool {
     four && kinds.contains(&info.kind)
 }
 
+/// The section is sliced for wild as its signature asks, without a panic.
 #[inline(always)]
-fn write(info: RelocationKindInfo, section: &mut [u8], field: &Field) -> RustFilled {
-    let output = &mut section[field.offset as usize..];
+fn write(info: RelocationKindInfo, section: &mut [u8], field: &Field) -> FilledAnswer {
+    let Some(output) = section.get_mut(field.offset as usize..) else {
+        return refused(2);
+    };
     match info.write_to_buffer(field.written(info), output) {
-        Ok(()) => RustFilled {
+        Ok(()) => FilledAnswer {
             refusal: 0,
             filled: true,
         },
-        Err(_) => RustFilled {
-            refusal: 15,
-            filled: false,
-        },
+        Err(_) => refused(15),
     }
 }
 
@@ -79,29 +84,24 @@ unsafe extern "C" fn rust_fill(
     start: *mut u8,
     len: usize,
     offset: u64,
-    address: u64,
+    place: u64,
     value: u64,
     addend: i64,
-) -> RustFilled {
+) -> FilledAnswer {
     // SAFETY: the driver lends a whole section.
     let section = unsafe { slice::from_raw_parts_mut(start, len) };
-    let Some(info) = oracle::relocation_from_raw(r_type) else {
-        return RustFilled {
-            refusal: 7,
-            filled: false,
-        };
-    };
-    if !FILLED_TYPES.contains(&r_type) {
-        return NONE;
-    }
     let field = Field {
         r_type,
         offset,
-        address,
+        place,
         value,
         addend,
     };
-    write(info, section, &field)
+    match row_of(r_type) {
+        Ok(Some(info)) => write(info, section, &field),
+        Ok(None) => NONE,
+        Err(refusal) => refused(refusal),
+    }
 }
 
 /// Fields, each in bytes of its own.
@@ -121,16 +121,10 @@ fn fields(from: &[u32]) -> Fields {
     let mut random = Random::new(SEED);
     let field = |_| {
         let r_type = from[random.word() as usize % from.len()];
-        let (addend, address) = (random.signed(8), random.word() >> 20);
+        let (addend, place) = (random.signed(8), random.word() >> 20);
         let sum = random.word() >> 34;
-        let place = if r_type == 2 { address } else { 0 };
-        Field {
-            r_type,
-            offset: random.word() % (SHARE as u64 - 7),
-            address,
-            value: sum.wrapping_sub(addend as u64).wrapping_add(place),
-            addend,
-        }
+        let offset = random.word() % (SHARE as u64 - 7);
+        Field::of_sum(r_type, offset, sum, place, addend)
     };
     Fields {
         bytes: vec![0; FIELDS * SHARE],
@@ -138,7 +132,7 @@ fn fields(from: &[u32]) -> Fields {
     }
 }
 
-fn fill_each<T>(function: Fill<T>, it: &mut Fields, calls: usize) {
+fn fill_each(function: Fill, it: &mut Fields, calls: usize) {
     let function = black_box(function);
     for (field, share) in it.fields[..calls].iter().zip(it.bytes.chunks_mut(SHARE)) {
         // SAFETY: a whole section, by its pointer and length.
@@ -148,7 +142,7 @@ fn fill_each<T>(function: Fill<T>, it: &mut Fields, calls: usize) {
                 share.as_mut_ptr(),
                 SHARE,
                 field.offset,
-                field.address,
+                field.place,
                 field.value,
                 field.addend,
             )
@@ -159,7 +153,7 @@ fn fill_each<T>(function: Fill<T>, it: &mut Fields, calls: usize) {
 
 fn same_fields(from: &[u32]) -> Fields {
     let (mut port, mut rust) = (fields(from), fields(from));
-    fill_each(sys::jitamoro_fill as Fill<FilledAnswer>, &mut port, FIELDS);
+    fill_each(sys::jitamoro_fill, &mut port, FIELDS);
     fill_each(rust_fill, &mut rust, FIELDS);
     assert!(port.bytes == rust.bytes, "filling leaves other bytes");
     fields(from)
@@ -171,7 +165,7 @@ pub fn time_fields(driver: &Driver) {
             &format!("fill, {name}"),
             RUNS,
             || same_fields(from),
-            |it, calls| elapsed(|| fill_each(sys::jitamoro_fill as Fill<FilledAnswer>, it, calls)),
+            |it, calls| elapsed(|| fill_each(sys::jitamoro_fill, it, calls)),
             |it, calls| elapsed(|| fill_each(rust_fill, it, calls)),
         );
     };
@@ -192,7 +186,7 @@ fn field_of(input: &Input, now: (u32, u64, i64)) -> Field {
     Field {
         r_type,
         offset,
-        address: BASE + input.start as u64 + offset,
+        place: BASE.wrapping_add(input.start as u64).wrapping_add(offset),
         value: input.record.address,
         addend,
     }
@@ -203,7 +197,7 @@ type Relax<F, K> =
 
 /// Two calls a record.
 #[inline(always)]
-fn port_record(relax: Relax<u8, u8>, fill: Fill<FilledAnswer>, input: &Input, section: *mut u8) {
+fn port_record(relax: Relax<u8, u8>, fill: Fill, input: &Input, section: *mut u8) {
     let it = &input.record;
     let (flags, output_kind) = numbers(input);
     let (executable, address) = (it.executable, it.address);
@@ -220,12 +214,15 @@ fn port_record(relax: Relax<u8, u8>, fill: Fill<FilledAnswer>, input: &Input, se
             address,
             it.addend,
         );
+        if relaxed.choice.refusal != 0 {
+            return;
+        }
         let now = match relaxed.choice.chosen {
             true => (relaxed.choice.new_type, relaxed.offset, relaxed.addend),
             false => (it.r_type, it.offset, it.addend),
         };
         let f = field_of(input, now);
-        let (place, value, addend) = (f.address, f.value, f.addend);
+        let (place, value, addend) = (f.place, f.value, f.addend);
         black_box(&fill(
             f.r_type,
             section,
@@ -240,10 +237,16 @@ fn port_record(relax: Relax<u8, u8>, fill: Fill<FilledAnswer>, input: &Input, se
 
 /// One call a record: the row is the relaxation's, or is looked up.
 #[inline(never)]
-extern "C" fn rust_record(input: &Input, section: *mut u8) -> RustFilled {
+extern "C" fn rust_record(input: &Input, section: *mut u8) -> FilledAnswer {
     // SAFETY: a whole section, by its pointer and length.
     let section = unsafe { slice::from_raw_parts_mut(section, input.length) };
     let it = &input.record;
+    if section.len() > SECTION_LIMIT {
+        return refused(1);
+    }
+    if it.offset > section.len() as u64 {
+        return refused(2);
+    }
     let (flags, output_kind): (ValueFlags, OutputKind) = types(input);
     let relaxation = oracle::new_relaxation(
         it.r_type,
@@ -256,24 +259,43 @@ extern "C" fn rust_record(input: &Input, section: *mut u8) -> RustFilled {
         it.addend,
     );
     let (mut offset, mut addend) = (it.offset, it.addend);
-    let info = match relaxation {
-        Some(relaxation) => {
-            relaxation.apply(section, &mut offset, &mut addend);
-            Some(relaxation.rel_info())
-        }
-        None => oracle::relocation_from_raw(it.r_type),
+    let row = match relaxation {
+        Some(relaxation) => row_after(&relaxation, section, &mut offset, &mut addend),
+        None => row_of(it.r_type),
     };
-    match info {
-        Some(info) if is_filled(&info) => {
-            write(info, section, &field_of(input, (it.r_type, offset, addend)))
-        }
-        _ => NONE,
+    match row {
+        Ok(Some(info)) => write(info, section, &field_of(input, (it.r_type, offset, addend))),
+        Ok(None) => NONE,
+        Err(refusal) => refused(refusal),
     }
+}
+
+/// Applies a relaxation, and gives its row if the port fills such a field.
+#[inline(always)]
+fn row_after(
+    relaxation: &oracle::Relaxation,
+    section: &mut [u8],
+    offset: &mut u64,
+    addend: &mut i64,
+) -> Result<Option<RelocationKindInfo>, u8> {
+    let (kind, inst_offset) = kind_number(relaxation.kind());
+    if !is_inside(window(kind, inst_offset), section.len(), *offset) {
+        return Err(6);
+    }
+    relaxation.apply(section, offset, addend);
+    Ok(Some(relaxation.rel_info()).filter(is_filled))
+}
+
+/// Looks a type's row up, and gives it if the port fills fields of the type.
+#[inline(always)]
+fn row_of(r_type: u32) -> Result<Option<RelocationKindInfo>, u8> {
+    let info = oracle::relocation_from_raw(r_type).ok_or(7)?;
+    Ok(Some(info).filter(|_| FILLED_TYPES.contains(&r_type)))
 }
 
 fn port_walk(inputs: &[Input], bytes: &mut [u8]) {
     let relax = black_box(sys::jitamoro_relax as Relax<u8, u8>);
-    let fill = black_box(sys::jitamoro_fill as Fill<FilledAnswer>);
+    let fill = black_box(sys::jitamoro_fill);
     let bytes = bytes.as_mut_ptr();
     for input in inputs {
         // SAFETY: the section starts inside the bytes.
@@ -282,7 +304,7 @@ fn port_walk(inputs: &[Input], bytes: &mut [u8]) {
 }
 
 fn rust_walk(inputs: &[Input], bytes: &mut [u8]) {
-    let record = black_box(rust_record as extern "C" fn(&Input, *mut u8) -> RustFilled);
+    let record = black_box(rust_record as extern "C" fn(&Input, *mut u8) -> FilledAnswer);
     let bytes = bytes.as_mut_ptr();
     for input in inputs {
         // SAFETY: the section starts inside the bytes.

@@ -1,4 +1,4 @@
-/* Relaxes a record and fills its field, walks a section with a pass and a tally, and writes a PLT entry. */
+/* Relaxes a record and fills its field, walks a section with a pass and a tally, and writes PLT entries. */
 #include <inttypes.h>
 #include <jitamoro.h>
 #include <stdio.h>
@@ -14,24 +14,17 @@ static void print_bytes(const uint8_t *bytes, size_t len) {
     puts("");
 }
 
-/* What became of a record. Under a refusal nothing has changed; where nothing was chosen the record is as it was. */
-static void print_choice(struct jitamoro_choice choice, const struct jitamoro_record *now) {
-    if (choice.refusal != JITAMORO_NOT_REFUSED) {
-        print_refusal(choice.refusal);
-        return;
-    }
-    printf("%s, to be filled: %s at %" PRIu64 ", addend %" PRId64 "\n",
-           choice.chosen ? jitamoro_kind_name(choice.kind) : "none", jitamoro_r_type_name(now->r_type), now->offset,
-           now->addend);
-}
+/* Where the section lies in the program, and the symbol's two values: its address, and its offset from the thread
+   pointer, which R_X86_64_TPOFF32 takes. */
+enum { SECTION = 0x400000, ADDRESS = 0x401000, THREAD_OFFSET = -16 };
 
-/* A record of a statically linked program, whose symbol lies at 0x401000. */
+/* A record of a statically linked program. */
 static struct jitamoro_record record_at(uint32_t r_type, uint64_t offset) {
     struct jitamoro_record record = {
         .r_type = r_type,
         .offset = offset,
         .addend = -4,
-        .address = 0x401000,
+        .address = ADDRESS,
         .flags = JITAMORO_FLAG_NON_INTERPOSABLE,
         .output_kind = JITAMORO_OUTPUT_STATIC_FIXED,
         .executable = true,
@@ -39,33 +32,36 @@ static struct jitamoro_record record_at(uint32_t r_type, uint64_t offset) {
     return record;
 }
 
-/* Fills what a record says now. A type that isn't filled here, as that of a GOT entry, is the caller's to fill. */
-static void fill(const struct jitamoro_record *record, uint64_t load_address, uint64_t value, uint8_t *section,
-                 size_t len) {
-    struct jitamoro_filled f = jitamoro_fill_record(record, section, len, load_address + record->offset, value);
-    if (f.refusal != JITAMORO_NOT_REFUSED) {
-        print_refusal(f.refusal);
-    } else {
-        puts(f.filled ? "filled" : "not filled here");
+/* Says what became of a record, and fills its field by the type that it has now: relaxing's, or its own where nothing
+   was chosen. A type that isn't filled here, as that of a GOT entry, is the linker's to fill. Where filling is refused,
+   the instruction stays as relaxing left it. */
+static bool finish(struct jitamoro_choice choice, const struct jitamoro_record *now, uint8_t *section, size_t len) {
+    if (choice.refusal != JITAMORO_NOT_REFUSED) {
+        print_refusal(choice.refusal);
+        return false;
     }
+    printf("%s, %s at %" PRIu64 ", addend %" PRId64 ": ", choice.chosen ? jitamoro_kind_name(choice.kind) : "none",
+           jitamoro_r_type_name(now->r_type), now->offset, now->addend);
+    int64_t value = now->r_type == JITAMORO_R_X86_64_TPOFF32 ? THREAD_OFFSET : ADDRESS;
+    struct jitamoro_filled field = jitamoro_fill_record_in(now, section, len, SECTION, (uint64_t)value);
+    if (field.refusal != JITAMORO_NOT_REFUSED) {
+        print_refusal(field.refusal);
+        return false;
+    }
+    puts(field.filled ? "filled" : "not filled here");
+    return true;
 }
 
-/* mov x@GOTPCREL(%rip), %r13 becomes mov $x, %r13, with x in its field; with another addend nothing is done */
+/* mov x@GOTPCREL(%rip), %r13 becomes mov $x, %r13; with another addend nothing is done */
 static bool one_record(int64_t addend) {
     uint8_t section[7] = {0x4c, 0x8b, 0x2d};
     struct jitamoro_record record = record_at(JITAMORO_R_X86_64_REX_GOTPCRELX, 3);
     record.addend = addend;
     struct jitamoro_choice choice = jitamoro_relax_record(&record, section, sizeof section);
     printf("one record: ");
-    print_choice(choice, &record);
-    if (choice.refusal != JITAMORO_NOT_REFUSED) {
-        return false;
-    }
+    bool fine = finish(choice, &record, section, sizeof section);
     print_bytes(section, sizeof section);
-    printf("  ");
-    fill(&record, 0x400000, record.address, section, sizeof section);
-    print_bytes(section, sizeof section);
-    return true;
+    return fine;
 }
 
 /* A record of the walk: what it is, and where. */
@@ -84,7 +80,7 @@ static void step(struct jitamoro_pass *pass, struct jitamoro_tally *tally, const
     if (s.skipped) {
         puts("skipped");
     } else {
-        print_choice(s.relaxed.choice, &record);
+        finish(s.relaxed.choice, &record, section, len);
     }
 }
 
@@ -102,11 +98,12 @@ static bool walk(void) {
     static const struct place places[] = {
         {"tlsgd", JITAMORO_R_X86_64_TLSGD, 4},         {"call", JITAMORO_R_X86_64_PLT32, 12},
         {"load", JITAMORO_R_X86_64_REX_GOTPCRELX, 19}, {"late", JITAMORO_R_X86_64_PC32, 7},
-        {"address", JITAMORO_R_X86_64_32S, 19},        {"outside", JITAMORO_R_X86_64_PC32, 24},
+        {"address", JITAMORO_R_X86_64_32S, 23},        {"outside", JITAMORO_R_X86_64_PC32, 28},
     };
     uint8_t section[] = {0x66, 0x48, 0x8d, 0x3d, 0, 0, 0, 0, /* lea x@tlsgd(%rip), %rdi */
                          0x66, 0x66, 0x48, 0xe8, 0, 0, 0, 0, /* call __tls_get_addr */
-                         0x4c, 0x8b, 0x2d, 0,    0, 0, 0};   /* mov x@GOTPCREL(%rip), %r13 */
+                         0x4c, 0x8b, 0x2d, 0,    0, 0, 0,    /* mov x@GOTPCREL(%rip), %r13 */
+                         0,    0,    0,    0};               /* .long x - 4 */
     struct jitamoro_pass pass = jitamoro_pass_fresh();
     struct jitamoro_tally tally = jitamoro_tally_fresh();
     puts("a walk:");

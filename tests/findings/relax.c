@@ -30,10 +30,11 @@ int main(int argc, char **argv) {
                        (uint8_t)number(5), true, address, -4);
     if (r.choice.refusal != 0) return printf("refused %d\n", r.choice.refusal), 1;
     if (!r.choice.chosen) return puts("none"), 0;
-    struct jitamoro_filled f = {0, false};
+    struct jitamoro_filled f = {0, true};
     if (argc > 7) f = jitamoro_fill(r.choice.new_type, section, len, r.offset, number(7) + r.offset, address, r.addend);
     for (size_t i = 0; i < len; i++) printf("%s%02x", i == 0 ? "" : " ", section[i]);
     printf(", type %u at %lu, addend %ld%s", r.choice.new_type, r.offset, r.addend, r.choice.mandatory ? ", mandatory" : "");
-    if (f.refusal != 0) printf("; filling: refused %d", f.refusal);
+    if (f.refusal != 0) printf("; filling is refused, %d: %s", f.refusal, jitamoro_refusal_text(f.refusal));
+    else if (!f.filled) printf("; not filled");
     puts("");
 }

@@ -39,8 +39,9 @@ enum function {
     FILL_SECTION_PADDING
 };
 
-static const char *const names[] = {"relax",    "new_relaxation", "apply",           "pass_step",           "tally_step",
-                                    "pass_end", "fill",           "write_plt_entry", "fill_section_padding"};
+static const char *const names[] = {"relax",     "new_relaxation",  "apply",
+                                    "pass_step", "tally_step",      "pass_end",
+                                    "fill",      "write_plt_entry", "fill_section_padding"};
 
 /* A call; each function uses some of the fields. Filling is given type, offset and addend of the record. */
 struct call {
@@ -87,15 +88,37 @@ enum {
     SKIPPED
 };
 
-/* Fields that are filled though a sum wraps on the way; those of other types; and 16 where 15 would hold too. */
-enum { WRAPPED_SUM, WRAPPED_PLACE, UNFILLED, CUT_AND_FAR, FILLINGS };
+/* What is to be seen of filling beside its refusals, and the four types filled, with sums that wrap too. */
+enum { AFTER_RELAXING, CUT_AND_FAR, NONE, CUT_NONE, FAR_NONE, FILLINGS };
 
-/* Figures that wrap: of records, and of bytes. */
+static const char *const fillings[] = {
+    [AFTER_RELAXING] = "a field that relaxing left filled",
+    [CUT_AND_FAR] = "16 where 15 would hold too",
+    [NONE] = "none",
+    [CUT_NONE] = "none though the field is cut",
+    [FAR_NONE] = "none though the value is out of range",
+};
+
+/* What is to be seen of a tally's figures. */
 enum { WRAPPED_COUNT, WRAPPED_BYTES, WRAPS };
 
-/* While a skip is pending: an empty record is taken, or one more; after it a record is skipped, or refused only because
-   of it (22), or the end is refused (24); a record is skipped that is none by choice, or would become type 0. */
+static const char *const wraps[] = {
+    [WRAPPED_COUNT] = "a count that wraps",
+    [WRAPPED_BYTES] = "bytes that wrap",
+};
+
+/* What is to be seen while a skip is pending. */
 enum { EMPTY_TAKEN, EMPTY_AGAIN, THEN_SKIPPED, THEN_22, THEN_24, SKIPPED_NONE, SKIPPED_TO_0, PENDINGS };
+
+static const char *const pendings[] = {
+    [EMPTY_TAKEN] = "an empty record taken",
+    [EMPTY_AGAIN] = "one more empty record taken",
+    [THEN_SKIPPED] = "a record after an empty one skipped",
+    [THEN_22] = "a record refused only because of an empty one (22)",
+    [THEN_24] = "the end after an empty record refused (24)",
+    [SKIPPED_NONE] = "a record skipped that is none by choice",
+    [SKIPPED_TO_0] = "a record skipped that would become type 0",
+};
 
 static struct {
     enum { END, BEGIN, HEAP } placement;
@@ -104,7 +127,8 @@ static struct {
     const struct lent *lent;
     uint64_t number; /* what such a function was given */
     uint64_t relaxed[KINDS], rewritten[KINDS], refused[256];
-    uint64_t filled[256], filling[FILLINGS];                /* by type; and what else is to be seen */
+    uint64_t filled[256], filled_wrapped[256];              /* fields, by type; those whose sum wraps */
+    uint64_t fill_refused[256], filling[FILLINGS];          /* and by refusal; and what else is to be seen */
     uint64_t raised[JITAMORO_TALLY_LENGTH], wrapped[WRAPS]; /* figures */
     uint64_t pending[PENDINGS], empty_refused[256];         /* while a skip is pending */
 } run;
@@ -693,9 +717,15 @@ static void check_relaxing(struct lent *l, const struct record *r, struct tried 
 
 /* ---- Filling a field */
 
+static const uint8_t filled_types[] = {JITAMORO_R_X86_64_PC32, JITAMORO_R_X86_64_32, JITAMORO_R_X86_64_32S,
+                                       JITAMORO_R_X86_64_TPOFF32};
+
 static bool is_filled(uint32_t r_type) {
-    return r_type == JITAMORO_R_X86_64_PC32 || r_type == JITAMORO_R_X86_64_32 || r_type == JITAMORO_R_X86_64_32S ||
-           r_type == JITAMORO_R_X86_64_TPOFF32;
+    bool is = false;
+    for (size_t i = 0; i < COUNT(filled_types); i++) {
+        is = is || r_type == filled_types[i];
+    }
+    return is;
 }
 
 /* What the field is to hold. */
@@ -725,16 +755,28 @@ static unsigned refusal_of_filling(const struct call *c, size_t len) {
     return len - c->record.offset < 4 ? 16 : fits(c->record.r_type, sum_of(c)) ? 0 : 15;
 }
 
-static void count_filling(const struct call *c, unsigned refusal) {
-    uint64_t sum = c->value + (uint64_t)c->record.addend;
+/* Whether the exact sum lies outside 0 to 2^64. Less a place it must also overflow when read as signed: that a symbol
+   lies before the field is no wrap. */
+static bool sum_wraps(const struct call *c) {
+    __int128 sum = (__int128)c->value + c->record.addend;
+    if (c->record.r_type == JITAMORO_R_X86_64_PC32) {
+        sum -= c->place;
+        return sum < INT64_MIN || sum > UINT64_MAX;
+    }
+    return sum < 0 || sum > UINT64_MAX;
+}
+
+static void count_filling(const struct call *c, size_t len, unsigned refusal) {
+    uint32_t r_type = c->record.r_type;
+    bool far = !fits(JITAMORO_R_X86_64_32, sum_of(c)) && !fits(JITAMORO_R_X86_64_32S, sum_of(c));
+    run.fill_refused[refusal]++;
     if (refusal == 16) {
-        run.filling[CUT_AND_FAR] += !fits(c->record.r_type, sum_of(c));
-    } else if (refusal == 0 && is_filled(c->record.r_type)) {
-        run.filled[c->record.r_type]++;
-        run.filling[WRAPPED_SUM] += sum < c->value;
-        run.filling[WRAPPED_PLACE] += c->record.r_type == JITAMORO_R_X86_64_PC32 && sum < c->place;
-    } else {
-        run.filling[UNFILLED] += refusal == 0;
+        run.filling[CUT_AND_FAR] += far;
+    } else if (refusal == 0 && is_filled(r_type)) {
+        run.filled[r_type]++;
+        run.filled_wrapped[r_type] += sum_wraps(c);
+    } else if (refusal == 0) {
+        run.filling[len - c->record.offset < 4 ? CUT_NONE : far ? FAR_NONE : NONE]++;
     }
 }
 
@@ -755,16 +797,14 @@ static void check_filling(struct lent *l, const struct record *r, uint64_t place
         }
     }
     check(memcmp(l->after, expected_bytes, l->watched_len) == 0, "filling: wrong bytes, or others than the field's");
-    count_filling(&c, refusal);
+    count_filling(&c, l->len, refusal);
 }
 
 /* Mostly one of the types that are filled, and a sum at the ends of the ranges. */
 static void check_any_filling(struct lent *l, const struct record *record) {
-    static const uint8_t types[] = {JITAMORO_R_X86_64_PC32, JITAMORO_R_X86_64_32, JITAMORO_R_X86_64_32S,
-                                    JITAMORO_R_X86_64_TPOFF32};
     struct record r = *record;
     if (!one_in(4)) {
-        r.r_type = types[below(COUNT(types))];
+        r.r_type = filled_types[below(COUNT(filled_types))];
     }
     r.addend = (int64_t)any_number();
     uint64_t place = any_number(), value = any_number();
@@ -787,7 +827,9 @@ static void check_filling_relaxed(struct lent *l, const struct record *record, c
     r.addend = (int64_t)t->relaxed.field[NEW_ADDEND];
     memcpy(before, l->before, l->watched_len);
     memcpy(l->before, t->bytes, l->watched_len);
+    uint64_t filled = run.filled[r.r_type];
     check_filling(l, &r, 0x401000 + r.offset, r.address);
+    run.filling[AFTER_RELAXING] += run.filled[r.r_type] - filled;
     memcpy(l->before, before, l->watched_len);
 }
 
@@ -1061,7 +1103,8 @@ static void check_numbers(void) {
 /* Sections that are too long by a byte or more, none of whose bytes can be accessed. Those past 2^32 would look
    short in 32 bits; valgrind takes seconds to reserve so much, so that the heap's leg leaves them out. */
 static struct lent *lend_too_long(void) {
-    static const size_t lengths[] = {JITAMORO_MAX_SECTION_LENGTH + 1, JITAMORO_MAX_SECTION_LENGTH + PAGE, (1ull << 32) + 7, (1ull << 32) + MARGIN};
+    static const size_t lengths[] = {JITAMORO_MAX_SECTION_LENGTH + 1, JITAMORO_MAX_SECTION_LENGTH + PAGE,
+                                     (1ull << 32) + 7, (1ull << 32) + MARGIN};
     static uint8_t *pages;
     static struct lent l;
     size_t count = run.placement == HEAP ? 2 : COUNT(lengths);
@@ -1128,6 +1171,25 @@ static void tour_pair(struct lent *l, const struct record *first, struct walked 
     }
 }
 
+/* Filling by every type that is known and some that aren't, with the field whole, cut, or past the end, and in a
+   section that is too long; sums in range, out of it, and those that wrap. */
+static void tour_filling(void) {
+    static const struct {
+        uint64_t place, value;
+        int64_t addend;
+    } sums[] = {{0x400000, 0x401000, -4}, {0x400000, 1ull << 40, 0}, {3, UINT64_MAX, 7}, {UINT64_MAX, 0, 0}};
+    static const uint64_t offsets[] = {0, 1, 4, 5, UINT64_MAX};
+    for (size_t i = 0; i < 61 * COUNT(sums) * COUNT(offsets); i++) {
+        size_t sum = i / 61 % COUNT(sums);
+        struct record r = {.r_type = i % 61, .offset = offsets[i / 61 / COUNT(sums)], .addend = sums[sum].addend};
+        struct lent *l = lend(4);
+        check_filling(l, &r, sums[sum].place, sums[sum].value);
+        release(l);
+        check_filling(lend_too_long(), &r, sums[sum].place, sums[sum].value);
+        run.call = NULL;
+    }
+}
+
 /* Every sequence, whole, with the flags and output kinds that lead to its kinds. */
 static void tour(void) {
     static const uint8_t flags[] = {0, 1, 3, 8}, output_kinds[] = {0, 1, 3, 4};
@@ -1173,35 +1235,45 @@ static size_t seen(const char *what, const uint64_t *tally, const uint8_t *numbe
     return found;
 }
 
+/* The same of outcomes with names. */
+static size_t seen_named(const char *what, const uint64_t *tally, const char *const *outcomes, size_t count) {
+    size_t found = 0;
+    for (size_t i = 0; i < count; i++) {
+        found += tally[i] != 0;
+        if (tally[i] == 0) {
+            printf("fuzz: %s: %s was never seen\n", what, outcomes[i]);
+        }
+    }
+    return found;
+}
+
 static int summary(double seconds) {
     static const uint8_t refusals[] = {1, 2, 3, 4, 5, 6, 7, 8, 9, 15, 16, 21, 22, 23, 24};
     static const uint8_t kinds[] = {4, 0, 1, 2, 3, 5, 6, 7, 8, 9, 10, 11, 12, 13, 14, 15, 16, 17, 18};
     static const uint8_t figures[] = {JITAMORO_TALLY_NONE, JITAMORO_TALLY_SKIPPED, JITAMORO_TALLY_BYTES};
-    static const uint8_t types[] = {2, 10, 11, 23};
-    static const uint8_t fillings[] = {WRAPPED_SUM, WRAPPED_PLACE, UNFILLED, CUT_AND_FAR};
-    static const uint8_t wraps[] = {WRAPPED_COUNT, WRAPPED_BYTES};
-    static const uint8_t pendings[] = {EMPTY_TAKEN, EMPTY_AGAIN,  THEN_SKIPPED, THEN_22,
-                                       THEN_24,     SKIPPED_NONE, SKIPPED_TO_0};
+    static const uint8_t fill_refusals[] = {1, 2, 7, 16, 15};
     static const uint8_t empty_refusals[] = {1, 2, 3, 4, 21, 22};
     /* Kind 4 is never chosen. */
     size_t relaxed = seen("relaxing, kind", run.relaxed, kinds + 1, COUNT(kinds) - 1);
     size_t rewritten = seen("rewriting, kind", run.rewritten, kinds, COUNT(kinds));
     size_t refused = seen("refusal", run.refused, refusals, COUNT(refusals));
-    size_t filled = seen("filling, type", run.filled, types, COUNT(types));
-    filled += seen("filling, outcome", run.filling, fillings, COUNT(fillings));
+    size_t filled = seen("filling: filled, type", run.filled, filled_types, COUNT(filled_types));
+    filled += seen("filling: a sum that wraps, type", run.filled_wrapped, filled_types, COUNT(filled_types));
+    filled += seen("filling: refusal", run.fill_refused, fill_refusals, COUNT(fill_refusals));
+    filled += seen_named("filling", run.filling, fillings, FILLINGS);
     size_t raised = seen("a tally, kind", run.raised, kinds + 1, COUNT(kinds) - 1);
     raised += seen("a tally, figure", run.raised, figures, COUNT(figures));
-    size_t wrapped = seen("a figure's wrap, 0 of records or 1 of bytes:", run.wrapped, wraps, COUNT(wraps));
-    size_t pending = seen("while a skip is pending, outcome", run.pending, pendings, COUNT(pendings));
+    size_t wrapped = seen_named("a tally", run.wrapped, wraps, WRAPS);
+    size_t pending = seen_named("while a skip is pending", run.pending, pendings, PENDINGS);
     pending += seen("an empty record while a skip is pending, refusal", run.empty_refused, empty_refusals,
                     COUNT(empty_refusals));
     printf("%" PRIu64 " calls in %.1f s; %zu kinds relaxed, %zu rewritten, %zu refusals, %zu figures, ", run.calls,
            seconds, relaxed, rewritten, refused, raised);
     printf("%zu outcomes of filling, %zu while a skip is pending\n", filled, pending);
     bool all = relaxed == COUNT(kinds) - 1 && rewritten == COUNT(kinds) && refused == COUNT(refusals);
-    all = all && raised == COUNT(kinds) - 1 + COUNT(figures) && wrapped == COUNT(wraps);
-    all = all && filled == COUNT(types) + COUNT(fillings);
-    return all && pending == COUNT(pendings) + COUNT(empty_refusals) ? 0 : 1;
+    all = all && raised == COUNT(kinds) - 1 + COUNT(figures) && wrapped == WRAPS;
+    all = all && filled == 2 * COUNT(filled_types) + COUNT(fill_refusals) + FILLINGS;
+    return all && pending == PENDINGS + COUNT(empty_refusals) ? 0 : 1;
 }
 
 static double now(void) {
@@ -1230,6 +1302,7 @@ int main(int argc, char **argv) {
     lent_pass = place(sizeof *lent_pass, &beside_pass);
     lent_tally = place(sizeof *lent_tally, &beside_tally);
     tour();
+    tour_filling();
     do {
         for (int i = 0; i < 128; i++) {
             play_round();

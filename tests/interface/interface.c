@@ -553,7 +553,9 @@ static void order_of_pass(struct asked a) {
 
 static void order_of_filling(uint8_t *section) {
     const uint8_t *end = section + MOST;
-    EXPECT(jitamoro_fill(28, section, MOST + 1, UINT64_MAX, 0, 1ull << 40, 0).refusal, 1);
+    EXPECT(jitamoro_fill(52, section, MOST + 1, UINT64_MAX, 0, 1ull << 40, 0).refusal, 1);
+    EXPECT(jitamoro_fill(11, section, MOST + 1, 0, 0, 1ull << 40, 0).refusal, 1);
+    EXPECT(jitamoro_fill(4, section, MOST + 1, 0, 0, 0, 0).refusal, 1);
     EXPECT(jitamoro_fill(11, section, MOST, MOST + 1, 0, 1ull << 40, 0).refusal, 2);
     EXPECT(jitamoro_fill(11, section, MOST, MOST - 3, 0, 1ull << 40, 0).refusal, 16);
     EXPECT(jitamoro_fill(11, section, MOST, MOST - 4, 0, 1ull << 40, 0).refusal, 15);
@@ -640,16 +642,16 @@ static void ranges(void) {
 static const struct filling {
     uint32_t r_type;
     size_t len;
-    uint64_t offset, address, value;
+    uint64_t offset, place, value;
     int64_t addend;
     uint8_t refusal;
     bool filled;
     uint8_t bytes[4]; /* of the field, where it is filled */
 } fillings[] = {
     /* each refusal with all that come after it */
-    {28, 8, 9, 0, UINT64_MAX, 0, JITAMORO_REFUSED_OFFSET, false, {0}},
-    {28, 8, UINT64_MAX, 0, UINT64_MAX, 0, JITAMORO_REFUSED_OFFSET, false, {0}},
-    {28, 8, 8, 0, UINT64_MAX, 0, JITAMORO_REFUSED_TYPE, false, {0}},
+    {52, 8, 9, 0, UINT64_MAX, 0, JITAMORO_REFUSED_OFFSET, false, {0}},
+    {52, 8, UINT64_MAX, 0, UINT64_MAX, 0, JITAMORO_REFUSED_OFFSET, false, {0}},
+    {52, 8, 8, 0, UINT64_MAX, 0, JITAMORO_REFUSED_TYPE, false, {0}},
     {10, 8, 5, 0, UINT64_MAX, 0, JITAMORO_REFUSED_FIELD, false, {0}},
     {10, 0, 0, 0, UINT64_MAX, 0, JITAMORO_REFUSED_FIELD, false, {0}},
     {10, 8, 4, 0, UINT64_MAX, 0, JITAMORO_REFUSED_VALUE, false, {0}},
@@ -662,14 +664,18 @@ static const struct filling {
     {11, 8, 2, 0, 1ull << 31, 0, JITAMORO_REFUSED_VALUE, false, {0}},
     {23, 8, 2, 0, (uint64_t)INT32_MIN, 0, 0, true, {0, 0, 0, 0x80}},
     {23, 8, 2, 0, (uint64_t)INT32_MIN, -1, JITAMORO_REFUSED_VALUE, false, {0}},
-    /* sums that wrap; the address counts for type 2 alone */
+    /* sums that wrap; the place counts for type 2 alone */
     {10, 8, 1, 7, UINT64_MAX, 5, 0, true, {4, 0, 0, 0}},
     {2, 8, 1, 7, 3, -4, 0, true, {0xf8, 0xff, 0xff, 0xff}},
     {2, 8, 1, UINT64_MAX, 0, 0, 0, true, {1, 0, 0, 0}},
+    {11, 8, 1, 7, 3, -4, 0, true, {0xff, 0xff, 0xff, 0xff}},
+    {23, 8, 1, 7, 3, -4, 0, true, {0xff, 0xff, 0xff, 0xff}},
     /* other types, with no look at the rest */
     {0, 0, 0, 0, UINT64_MAX, 0, 0, false, {0}},
     {4, 8, 8, 0, 1ull << 40, 0, 0, false, {0}},
+    {22, 8, 0, 0, 1, 0, 0, false, {0}},
     {25, 8, 0, 0, 1, 0, 0, false, {0}},
+    {4, 8, 9, 0, 1, 0, JITAMORO_REFUSED_OFFSET, false, {0}},
 };
 
 static void fills(void) {
@@ -678,7 +684,7 @@ static void fills(void) {
         uint8_t section[8], wanted[8];
         memset(section, 0xa5, sizeof section);
         memset(wanted, 0xa5, sizeof wanted);
-        struct jitamoro_filled f = jitamoro_fill(r->r_type, section, r->len, r->offset, r->address, r->value, r->addend);
+        struct jitamoro_filled f = jitamoro_fill(r->r_type, section, r->len, r->offset, r->place, r->value, r->addend);
         if (r->filled) {
             memcpy(wanted + r->offset, r->bytes, sizeof r->bytes);
         }
@@ -703,14 +709,13 @@ static void filled_records(void) {
         .executable = true,
     };
     jitamoro_relax_record(&record, section, sizeof section);
-    uint64_t address = 0x401000 + record.offset;
-    struct jitamoro_filled f = jitamoro_fill_record(&record, section, sizeof section, address, record.address);
+    struct jitamoro_filled f = jitamoro_fill_record_in(&record, section, sizeof section, 0x401000, record.address);
     EXPECT(f.refusal, 0);
     EXPECT(f.filled, true);
     EXPECT(memcmp(section, call, sizeof section), 0);
     struct jitamoro_pass pass = {.pending = 1};
     EXPECT(jitamoro_step_record(&pass, &record, section, sizeof section).skipped, true);
-    f = jitamoro_fill_record(&record, section, sizeof section, address, 0);
+    f = jitamoro_fill_record_in(&record, section, sizeof section, 0x401000, 0);
     EXPECT(f.refusal, 0);
     EXPECT(f.filled, false);
     EXPECT(memcmp(section, call, sizeof section), 0);

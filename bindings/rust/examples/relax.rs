@@ -1,5 +1,5 @@
-//! Relaxes `mov x@GOTPCREL(%rip), %r13`, where the linker knows the address of x, and fills the field; then the same in
-//! a section that was cut, as a linker would report it.
+//! Relaxes `mov x@GOTPCREL(%rip), %r13`, where the linker knows the address of x, and fills the field; then the same
+//! with an addend that nothing is chosen for, and in a section that was cut, as a linker would report it.
 
 use jitamoro::Fill;
 use jitamoro::OutputKind;
@@ -14,20 +14,16 @@ use jitamoro::relax;
 /// Where the section is loaded.
 const SECTION: u64 = 0x400000;
 
-/// Relaxes a record, tells what was done, and fills the field.
-fn relax_and_fill(record: &Record, section: &mut [u8]) -> Result<Fill, Refusal> {
-    let field = match relax(record, section)? {
+/// Relaxes a record, tells what was done, and fills the field with a symbol's value.
+fn relax_and_fill(record: &Record, value: u64, section: &mut [u8]) -> Result<Fill, Refusal> {
+    let (what, field) = match relax(record, section)? {
         Some(relaxed) => {
-            println!("kind {}", relaxed.relaxation.kind());
-            relaxed.field(SECTION + relaxed.offset_in_section, record.sym_addr)
+            let kind = relaxed.relaxation.kind();
+            (kind.to_string(), relaxed.field_in(SECTION, value))
         }
-        None => record.field(SECTION + record.offset_in_section, record.sym_addr),
+        None => ("none".to_string(), record.field_in(SECTION, value)),
     };
-    let new_type = elf::x86_64_rel_type_to_string(field.relocation_kind);
-    println!("new type {new_type}");
-    println!("offset {}", field.offset_in_section);
-    println!("addend {}", field.addend);
-    println!("bytes {section:02x?}");
+    println!("{what}: {section:02x?}, {field}, addend {}", field.addend);
     fill(&field, section)
 }
 
@@ -41,11 +37,18 @@ fn main() {
         sym_addr: 0x401000,
         rel_addend: -4,
     };
+    let other = Record {
+        rel_addend: -3,
+        ..record
+    };
     let whole = [0x4c, 0x8b, 0x2d, 0, 0, 0, 0];
-    for mut section in [whole.to_vec(), whole[..2].to_vec()] {
-        match relax_and_fill(&record, &mut section) {
-            Ok(Fill::Filled) => println!("filled {section:02x?}"),
-            Ok(Fill::Nothing) => println!("not to be filled"),
+    // The value is the symbol's address: such a load becomes R_X86_64_PC32 or 32S. R_X86_64_TPOFF32 takes the offset from
+    // the thread pointer.
+    for (record, length) in [(record, 7), (other, 7), (record, 2)] {
+        let mut section = whole[..length].to_vec();
+        match relax_and_fill(&record, record.sym_addr, &mut section) {
+            Ok(Fill::Filled) => println!("filled: {section:02x?}"),
+            Ok(Fill::Nothing) => println!("not filled here"),
             Err(refusal) => println!("error: plant.o: .text: relocation {record}: {refusal}"),
         }
     }

@@ -80,6 +80,33 @@ impl platform::Arch for ElfX86_64 {
         Ok(relaxation.filter(|relaxation| !is_malfunction(relaxation.kind())))
     }
 
+    fn write_value(
+        rel_info: RelocationKindInfo,
+        value: u64,
+        section_bytes: &mut [u8],
+        offset_in_section: u64,
+    ) -> Result {
+        // The value is finished, so of the type only width and range count.
+        let relocation_kind = match rel_info.size {
+            RelocationSize::ByteSize(4) if rel_info.range.min == 0 => jitamoro::elf::R_X86_64_32,
+            RelocationSize::ByteSize(4) => jitamoro::elf::R_X86_64_32S,
+            _ => jitamoro::elf::R_X86_64_NONE,
+        };
+        let field = jitamoro::Field {
+            relocation_kind,
+            offset_in_section,
+            place: 0,
+            value,
+            addend: 0,
+        };
+        let fill = jitamoro::fill(&field, section_bytes)
+            .with_context(|| format!("Failed to write the field at {offset_in_section:#x}"))?;
+        if fill == jitamoro::Fill::Nothing {
+            rel_info.write_to_buffer(value, &mut section_bytes[offset_in_section as usize..])?;
+        }
+        Ok(())
+    }
+
     fn fill_nop_padding(buf: &mut [u8]) {
         jitamoro::fill_section_padding(buf, true);
     }
@@ -130,34 +157,6 @@ impl platform::Relaxation for jitamoro::Relaxation {
 
     fn needs_got_fallback(&self) -> bool {
         self.needs_got_fallback()
-    }
-}
-
-/// In the writer, in place of `rel_info.write_to_buffer(value, &mut section_bytes[offset_in_section..])`: the value is
-/// computed, with the addend in it and the place out of it. What isn't filled stays with `write_to_buffer`.
-fn write_value(
-    r_type: object::elf::RelocationType,
-    rel_info: RelocationKindInfo,
-    value: u64,
-    section_bytes: &mut [u8],
-    offset_in_section: u64,
-) -> Result {
-    let field = jitamoro::Field {
-        relocation_kind: r_type.0,
-        offset_in_section,
-        address: 0,
-        value,
-        addend: 0,
-    };
-    let fill = jitamoro::fill(&field, section_bytes).with_context(|| {
-        let r_type = <ElfX86_64 as platform::Arch>::rel_type_to_string(r_type);
-        format!("Failed to write {r_type} at {offset_in_section:#x}")
-    })?;
-    match fill {
-        jitamoro::Fill::Filled => Ok(()),
-        jitamoro::Fill::Nothing => {
-            rel_info.write_to_buffer(value, &mut section_bytes[offset_in_section as usize..])
-        }
     }
 }
 
@@ -332,26 +331,54 @@ mod tests {
         assert_eq!(short.unwrap_err().0, expected);
     }
 
-    /// A type that `fill` fills, and one that stays wild's own.
+    /// A row of four bytes has the range of the type that `write_value` takes for it.
+    #[test]
+    fn rows_of_four_bytes() {
+        let row = |r_type| ElfX86_64::relocation_from_raw(RelocationType(r_type));
+        let rows = (0..64).filter_map(|r_type| row(r_type).ok());
+        let of_four: Vec<_> = rows
+            .filter(|row| matches!(row.size, RelocationSize::ByteSize(4)))
+            .collect();
+        for four in &of_four {
+            let unsigned = four.range.min == 0;
+            let like = row(if unsigned { R_X86_64_32 } else { R_X86_64_32S });
+            assert_eq!(four.range, like.unwrap().range);
+        }
+        assert_eq!(of_four.len(), 25);
+    }
+
+    /// Fields of four bytes, signed and unsigned, by `fill`, and one of eight by wild's own.
     #[test]
     fn values() {
-        let write = |r_type, value, section: &mut [u8]| {
-            let r_type = RelocationType(r_type);
-            let rel_info = ElfX86_64::relocation_from_raw(r_type).unwrap();
-            write_value(r_type, rel_info, value, section, 1)
+        let write = |r_type, value: i64, section: &mut [u8]| {
+            let rel_info = ElfX86_64::relocation_from_raw(RelocationType(r_type)).unwrap();
+            ElfX86_64::write_value(rel_info, value as u64, section, 1)
         };
-        let mut section = [0xaa; 6];
-        for (r_type, value) in [(R_X86_64_32S, -2i64), (R_X86_64_PLT32, 0x1234)] {
-            write(r_type, value as u64, &mut section).unwrap();
-            assert_eq!(section[1..5], value.to_le_bytes()[..4]);
-            assert_eq!((section[0], section[5]), (0xaa, 0xaa));
+        for (r_type, value, size) in [
+            (R_X86_64_32S, -2, 4),
+            (R_X86_64_32, u32::MAX.into(), 4),
+            (R_X86_64_PLT32, i32::MIN.into(), 4),
+            (R_X86_64_64, i64::MAX, 8),
+        ] {
+            let mut section = [0xaa; 10];
+            write(r_type, value, &mut section).unwrap();
+            let mut expected = [0xaa; 10];
+            expected[1..=size].copy_from_slice(&value.to_le_bytes()[..size]);
+            assert_eq!(section, expected);
         }
-        let far = write(R_X86_64_32S, 1 << 31, &mut section).unwrap_err();
-        let expected = [
+        let [far, cut] = [
             "the value lies outside the field's range",
-            "Failed to write R_X86_64_32S at 0x1",
+            "the field's four bytes don't lie wholly in the section",
         ];
-        assert_eq!(far.0, expected);
+        let context = "Failed to write the field at 0x1";
+        for (r_type, value, length, expected) in [
+            (R_X86_64_PC32, 1 << 31, 5, far),
+            (R_X86_64_32, -1, 5, far),
+            (R_X86_64_32, 0, 4, cut),
+        ] {
+            let error = write(r_type, value, &mut [0; 5][..length]).unwrap_err();
+            assert_eq!(error.0, [expected, context]);
+        }
     }
 
     #[test]
@@ -399,6 +426,16 @@ mod platform {
             rel_addend: i64,
             previous_relocation: Option<PreviousRelocationInfo<object::elf::RelocationType>>,
         ) -> Result<Option<Self::Relaxation>>;
+        /// Writes a relocation's finished value. Architectures may test and write it themselves.
+        fn write_value(
+            rel_info: RelocationKindInfo,
+            value: u64,
+            section_bytes: &mut [u8],
+            offset_in_section: u64,
+        ) -> Result {
+            rel_info.write_to_buffer(value, &mut section_bytes[offset_in_section as usize..])?;
+            Ok(())
+        }
         fn fill_nop_padding(buf: &mut [u8]);
         fn fill_section_padding(buf: &mut [u8], section_flags: SectionFlags);
         fn rel_type_to_string(
@@ -579,7 +616,12 @@ mod linker_utils {
         }
 
         impl RelocationKindInfo {
-            pub(crate) fn write_to_buffer(self, value: u64, output: &mut [u8]) -> crate::Result {
+            /// Wild's answers an `anyhow::Error`, and tests range and room: here any error that is `Display` will do.
+            pub(crate) fn write_to_buffer(
+                self,
+                value: u64,
+                output: &mut [u8],
+            ) -> Result<(), String> {
                 let RelocationSize::ByteSize(byte_size) = self.size else {
                     return Ok(());
                 };

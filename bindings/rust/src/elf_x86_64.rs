@@ -36,12 +36,17 @@ pub struct Record {
 /// name.
 impl fmt::Display for Record {
     fn fmt(&self, f: &mut fmt::Formatter<'_>) -> fmt::Result {
-        match x86_64_rel_type_name(self.relocation_kind) {
-            Some(name) => f.write_str(name)?,
-            None => write!(f, "type {}", self.relocation_kind)?,
-        }
-        write!(f, " at offset {:#x}", self.offset_in_section)
+        write_place(f, self.relocation_kind, self.offset_in_section)
     }
+}
+
+/// A relocation's type and where it lies.
+pub(crate) fn write_place(f: &mut fmt::Formatter<'_>, r_type: u32, offset: u64) -> fmt::Result {
+    match x86_64_rel_type_name(r_type) {
+        Some(name) => f.write_str(name)?,
+        None => write!(f, "type {r_type}")?,
+    }
+    write!(f, " at offset {offset:#x}")
 }
 
 /// Calls a function of `sys` with what else is lent, a record's numbers and a section.

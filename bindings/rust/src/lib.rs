@@ -10,7 +10,7 @@
 //! | `ElfX86_64::new_relaxation` | [`new_relaxation`] |
 //! | `RelaxationKind::apply`, `Relaxation::apply` | [`RelaxationKind::apply`], [`Relaxation::apply`] |
 //! | both, one after the other | [`relax`] |
-//! | `RelocationKindInfo::write_to_buffer`, with the value computed | [`fill`] |
+//! | `RelocationKindInfo::write_to_buffer` and the sum before it, for four types | [`fill`] |
 //! | `relocation_from_raw` | [`relocation_from_raw`] |
 //! | `DynamicRelocationKind::x86_64_r_type` | [`DynamicRelocationKind::x86_64_r_type`] |
 //! | `write_plt_entry`, `fill_section_padding` | [`write_plt_entry`], [`fill_section_padding`] |

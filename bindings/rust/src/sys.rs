@@ -79,7 +79,8 @@ pub struct RelaxedAnswer {
     pub addend: i64,
 }
 
-/// Whether a field was filled. Refusals 1, 2, 7, 16, 15. Where it is neither refused nor filled, the type is another one.
+/// Whether a field was filled. Refusals 1, 2, 7, 16, 15. Where it is neither refused nor filled, the type is none of
+/// the four.
 #[derive(Debug, Default, Clone, Copy, PartialEq, Eq)]
 #[repr(C)]
 pub struct FilledAnswer {
@@ -229,7 +230,7 @@ unsafe extern "C" {
         section: *mut u8,
         len: usize,
         offset: u64,
-        address: u64,
+        place: u64,
         value: u64,
         addend: i64,
     ) -> FilledAnswer;
@@ -346,7 +347,7 @@ wrappers! {
         r_type: u32,
         [as_mut_ptr] section: &mut [u8],
         offset: u64,
-        address: u64,
+        place: u64,
         value: u64,
         addend: i64,
     ) -> FilledAnswer = jitamoro_fill;

@@ -1,8 +1,10 @@
 -- The code's types of elf.rs as the rules have them. Assumes nothing.
-use Rattle.std.specs.Prelude.{true, false, cond, List, [], ◌∷◌, ℕ, pos}
+use Rattle.std.specs.Prelude.{true, false, cond, List, [], ◌∷◌, ℕ, pos, Ok, Err}
+use Rattle.rules.specs.Answer.{Answer}
 use Rattle.rules.specs.Range as rules
 use Rattle.rules.specs.Range.{Range, within, unchecked, signed, unsigned}
 use Rattle.rules.specs.Types.{Row}
+use Rattle.rules.specs.Fill.{Fill}
 use Rattle.elf.specs.declared.Sign.{Sign}
 use Rattle.elf.specs.declared.Sign.TheVariants.{Signed, Unsigned}
 use Rattle.elf.specs.declared.ByteWidth.{ByteWidth}
@@ -30,6 +32,11 @@ range_from unchecked = record { checked = false; min = pos 0; max = pos 0 }
 -- the range that any value of the code's type stands for
 abbrev pub range_of : AllowedRange → Range
 range_of r = cond r.checked (within r.min r.max) unchecked
+
+-- the answer of writing a field, which fills or refuses: the bytes are in the buffer
+abbrev pub written_of : Answer Fill → Answer Unit
+written_of (Ok f) = Ok tt
+written_of (Err n) = Err n
 
 -- the kinds of dynamic relocations in the Rust's order
 abbrev pub dynamic_kinds : List DynamicRelocationKind

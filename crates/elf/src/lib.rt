@@ -1,13 +1,16 @@
 // elf.rs, as far as x86-64 uses them.
 #![tactic(auto)]
 
-ghost use Rattle.std.specs.Prelude.{◌≡◌, ℕ, length, slice_get};
-ghost use Rattle.rules.specs.Range.{unchecked, within, contains, byte_range, Keeps, low_first, LowPart};
+ghost use Rattle.std.specs.Prelude.{◌≡◌, ℕ, cond, length, slice_get, Ok, Err};
+ghost use Rattle.refusal.specs.declared.Refusal.TheVariants.{ValueOutOfRange};
+ghost use Rattle.rules.specs.Range.{unchecked, within, contains, byte_range, signed64, Keeps, low_first, LowPart};
 ghost use Rattle.rules.specs.Types.{dynamic_type};
+ghost use Rattle.rules.specs.Fill.{written, after_filling};
 ghost use Rattle.rules.specs.Psabi.{DynamicNames};
-ghost use Rattle.elf.specs.Elf.{range_of, range_from, width_of, sign_of, dynamic_kinds, dynamic_number};
+ghost use Rattle.elf.specs.Elf.{range_of, range_from, width_of, sign_of, written_of, dynamic_kinds, dynamic_number};
 
 use elf_kind::RelocationKind;
+use refusal::Refusal;
 
 #[derive(Clone, Copy, Debug, PartialEq, Eq, Hash)]
 pub enum Sign {
@@ -144,23 +147,7 @@ impl AllowedRange {
     pub fn contains(self, value: i64) -> bool
         ensures { result ≡ contains (range_of self) value }
     {
-        !self.checked | ((self.min <= value) & (value < self.max))
-    }
-}
-
-// The low bytes of a value, low byte first, as many as `output` has: the Rust's `to_le_bytes`, at any width. Read back, they
-// are the value's low part.
-// Kept: byte by byte, since `to_le_bytes` has eight and a row's size may be more: a split, a copy and a fill would take the
-// loop's place.
-#[tactic(auto, using(rules::proofs::Fill::low_part))]
-pub fn write_low_first(value: u64, output: &mut [u8])
-    ensures output_after { output.new ≡ low_first (length output.old) value }
-    ensures by_index { (w : ℕ) → LowPart w }
-{
-    let mut rest = value;
-    for byte in output {
-        *byte = (rest % 0x100) as u8;
-        rest /= 0x100;
+        !self.checked || (self.min <= value && value < self.max)
     }
 }
 
@@ -177,4 +164,53 @@ pub struct RelocationKindInfo {
     pub bias: bool,
     pub thunkable: bool,
     pub implicit_addend: bool,
+}
+
+impl RelocationKindInfo {
+    // The Rust tests the alignment first: 1 in every row of x86-64, and every value is a multiple of 1.
+    fn verify(self, value: i64) -> Result<(), Refusal>
+        ensures { result ≡ cond (contains (range_of self.range) value) (Ok tt) (Err ValueOutOfRange) }
+    {
+        if !self.range.contains(value) {
+            return Err(Refusal::ValueOutOfRange);
+        }
+        Ok(())
+    }
+
+    // The Rust tests the range first: here 16 comes before 15 (document 02, card 4).
+    #[tactic(auto, unfolding(rules::specs::Fill::after_filling, rules::specs::Range::signed64))]
+    pub fn write_to_buffer(self, value: u64, output: &mut [u8]) -> Result<(), Refusal>
+        ensures value { result ≡ written_of (written self.size.byte_size (contains (range_of self.range) (signed64 value)) value output.old 0) }
+        ensures output_after { output.new ≡ after_filling output.old (written self.size.byte_size (contains (range_of self.range) (signed64 value)) value output.old 0) }
+    {
+        let byte_size = self.size.byte_size as usize;
+        if output.len() < byte_size {
+            return Err(Refusal::FieldNotInside);
+        }
+        self.verify(value.cast_signed())?;
+        let value_bytes = value.to_le_bytes();
+        // The widths of four and eight bytes by themselves: an optimisation, as in the Rust.
+        match byte_size {
+            4 => output[..4].copy_from_slice(&value_bytes[..4]),
+            8 => output[..8].copy_from_slice(&value_bytes),
+            _ => write_low_first(value, &mut output[..byte_size]),
+        }
+        Ok(())
+    }
+}
+
+// The low bytes of a value, low byte first, as many as `output` has: the Rust's `to_le_bytes`, at any width. Read back, they
+// are the value's low part.
+// Kept: byte by byte, since `to_le_bytes` has eight and a row's size may be more: a split, a copy and a fill would take the
+// loop's place.
+#[tactic(auto, using(rules::proofs::Widths::low_part))]
+pub fn write_low_first(value: u64, output: &mut [u8])
+    ensures output_after { output.new ≡ low_first (length output.old) value }
+    ensures low_part { (w : ℕ) → LowPart w }
+{
+    let mut rest = value;
+    for byte in output {
+        *byte = (rest % 0x100) as u8;
+        rest /= 0x100;
+    }
 }

@@ -1,8 +1,7 @@
--- The cases of `filling` by what the lookup found; and `write_to_buffer` on the part of the section from the offset on, said of the whole.
+-- The cases of `filling` by what the lookup found; and `written` on the part of the section from the offset on, said of the whole.
 -- Assumes nothing.
 use Rattle.std.specs.Prelude.{Result, Ok, Err}
-use Rattle.std.proofs.Common.{◌≡◌, ℕ, ◌+◌, ◌-◌, ◌≤◌, Bool, true, false, cond, not, eqb, ltb, nat_lt, List, [], ◌∷◌, ◌++◌, length, take, drop, sym, refl, ap, ◌∙◌, append_assoc, append-nil, zero-add, arith, length-drop, drop_of_length-le, length-take-le, take_all, drop-drop, ltb-false, ltb-true, le-ltb, lt-ltb, eqb-true, to_z, w64}
-use Rattle.std.proofs.lemmas.Int.{ints}
+use Rattle.std.proofs.Common.{◌≡◌, ℕ, ◌+◌, ◌-◌, ◌≤◌, Bool, true, false, cond, eqb, ltb, List, [], ◌∷◌, ◌++◌, length, take, drop, sym, refl, ap, ◌∙◌, append_assoc, append-nil, zero-add, arith, length-drop, drop_of_length-le, length-take-le, take_all, drop-drop, ltb-false, ltb-true, le-ltb, lt-ltb, eqb-true}
 use lib.Seq.{sets, sets-eq}
 use borrow.Rule.Slice.PartMut.{mid_of, put_mid, put_same}
 use Rattle.laws.proofs.Bools.{never}
@@ -14,13 +13,14 @@ use Rattle.rules.specs.Record.{link_limit}
 use Rattle.rules.specs.Range.{contains, signed64, low_first}
 use Rattle.rules.specs.Types.{Row, Entry, find, types, lookup, earlier_types, later_types}
 use Rattle.rules.specs.Choose.{in_range}
-use Rattle.rules.specs.Fill.{fills, field_value, Fill, unfilled, filled, filling, after_filling}
-use Rattle.rules.proofs.Fill.{length-low, of_four}
+use Rattle.rules.specs.Fill.{fills, field_value, written, Fill, unfilled, filled, filling, after_filling, FilledAt, loaded_at}
+use Rattle.rules.proofs.Widths.{length-low}
+use Rattle.rules.proofs.Fill.{of_four, exact}
 use Rattle.elf.specs.declared.RelocationKindInfo.{RelocationKindInfo}
-use Rattle.elf.specs.Elf.{range_of, info_from}
+use Rattle.elf.specs.Elf.{range_of, info_from, written_of}
 use Rattle.elf.proofs.Back.{range_back}
 use Rattle.x86_64_types.specs.Types.{found_of}
-use Rattle.elf_fill.specs.Filling.{filling_of, written_of, written}
+use Rattle.elf_fill.specs.Filling.{filling_of}
 
 module _ (sec : List ℕ) (at : ℕ) where
   -- the part from the offset on, and a part put back there
@@ -44,29 +44,37 @@ module _ (sec : List ℕ) (at : ℕ) where
   through (Ok unfilled) = Ok unfilled
   through (Err n) = Err n
 
-  pub put_back : (x y : Answer Fill) → x ≡ through y → back (after_filling part y) ≡ after_filling sec x
-  unfolding after_filling
-  put_back x (Ok (filled out)) e = rw e
-  put_back x (Ok unfilled) e = rw e (put_same at (length sec - at) sec)
-  put_back x (Err n) e = rw e (put_same at (length sec - at) sec)
+  -- what is written into the part is written into the whole
+  within_part : at ≤ length sec → (w : ℕ) (b : Bool) (x : ℕ) → written w b x sec at ≡ through (written w b x part 0)
+  within_part low w b x = go (ltb (length sec) (at + w)) refl b where
+    size : length part ≡ length sec - at
+    size = length-take-le (length sec - at) (drop at sec) (omega (arith, length-drop at sec))
+
+    go : (c : Bool) → ltb (length sec) (at + w) ≡ c → (b : Bool) → written w b x sec at ≡ through (written w b x part 0)
+    go true e b = rw (e, lt-ltb (length part) (0 + w) (omega (arith, size, ltb-true (length sec) (at + w) e)))
+    go false e b = let h = ltb-false (length sec) (at + w) e in rw (e, le-ltb (length part) (0 + w) (omega (arith, size))) (inside b h) where
+      inside : (b : Bool) → at + w ≤ length sec
+          → cond b (Ok (filled (sets sec at (low_first w x)))) (Err ValueOutOfRange) ≡ through (cond b (Ok (filled (sets part 0 (low_first w x)))) (Err ValueOutOfRange))
+      inside true h = ap (λ (l : List ℕ). Ok (filled l)) (sym (stored (low_first w x) (omega (arith, length-low w x))))
+      inside false h = refl
 
   -- the code's answer after one of `write_to_buffer`
   abbrev pub wrote : Answer Unit → Result Bool Refusal
   wrote (Ok u) = Ok true
   wrote (Err n) = Err n
 
-  answered : (b g : Bool) (out : List ℕ)
-      → let y = cond b (Err FieldNotInside) (cond g (Ok (filled out)) (Err ValueOutOfRange)) in
-      filling_of (through y) ≡ wrote (written_of y)
-  answered true g out = refl
-  answered false true out = refl
-  answered false false out = refl
+  answered : (w : ℕ) (b : Bool) (x : ℕ) → filling_of (through (written w b x part 0)) ≡ wrote (written_of (written w b x part 0))
+  answered w b x = go (ltb (length part) (0 + w)) b where
+    go : (c b : Bool) → let y = cond c (Err FieldNotInside) (cond b (Ok (filled (sets part 0 (low_first w x)))) (Err ValueOutOfRange)) in filling_of (through y) ≡ wrote (written_of y)
+    go true b = refl
+    go false true = refl
+    go false false = refl
 
--- stores that are lent the first w bytes
-pub prefix : (w x : ℕ) (out : List ℕ) → w ≤ length out → low_first (length (take w out)) x ++ drop w out ≡ sets out 0 (low_first w x)
-prefix w x out h =
-    rw (length-take-le w out h)
-    (sym (sets-eq (low_first w x) out 0 (omega (arith, length-low w x)) ∙ rw (zero-add (length (low_first w x)), length-low w x)))
+  put_back : (x y : Answer Fill) → x ≡ through y → back (after_filling part y) ≡ after_filling sec x
+  unfolding after_filling
+  put_back x (Ok (filled out)) e = rw e
+  put_back x (Ok unfilled) e = rw e (put_same at (length sec - at) sec)
+  put_back x (Err n) e = rw e (put_same at (length sec - at) sec)
 
 -- ---- the cases, by the lookup's answer
 
@@ -108,44 +116,31 @@ module _ (sec : List ℕ) (f : Field) (within : length sec ≤ 268435456) (low :
     go (Ok r) q e k = rw (le-ltb 268435456 (length sec) within, le-ltb (length sec) at low, q, k)
     go (Err m) q e k = never (cc)
 
-  length_part : length (part sec at) ≡ length sec - at
-  length_part = length-take-le (length sec - at) (drop at sec) (omega (arith, length-drop at sec))
-
-  -- the same tests, of the part and of the whole
-  same : (b : Bool) → ltb (length sec) (at + 4) ≡ b → (g : Bool) (x : ℕ)
-      → cond b (Err FieldNotInside) (cond (not g) (Err ValueOutOfRange) (Ok (filled (sets sec at (low_first 4 x)))))
-      ≡ through sec at (cond (ltb (length (part sec at)) 4) (Err FieldNotInside) (cond g (Ok (filled (sets (part sec at) 0 (low_first 4 x)))) (Err ValueOutOfRange)))
-  same true e g x = let h = ltb-true (length sec) (at + 4) e in rw (length_part, lt-ltb (length sec - at) 4 (omega arith))
-  same false e false x = let h = ltb-false (length sec) (at + 4) e in rw (length_part, le-ltb (length sec - at) 4 (omega arith))
-  same false e true x =
-      let h = ltb-false (length sec) (at + 4) e in
-      rw (length_part, le-ltb (length sec - at) 4 (omega arith)) (ap (λ (l : List ℕ). Ok (filled l)) (sym (stored sec at (low_first 4 x) (omega (arith, length-low 4 x)))))
-
-  pub written_is : {info : RelocationKindInfo} → Ok info ≡ found_of (lookup t) → fills t ≡ true
-      → filling link_limit sec f ≡ through sec at (written info.size.byte_size (range_of info.range) (field_value f) (part sec at))
+  written_is : {info : RelocationKindInfo} → Ok info ≡ found_of (lookup t) → fills t ≡ true
+      → filling link_limit sec f ≡ written info.size.byte_size (contains (range_of info.range) (signed64 (field_value f))) (field_value f) sec at
   unfolding filling in_range
   written_is {info} = go (lookup t) refl where
     go : (a : Answer Row) → lookup t ≡ a → Ok info ≡ found_of a → fills t ≡ true
-        → filling link_limit sec f ≡ through sec at (written info.size.byte_size (range_of info.range) (field_value f) (part sec at))
+        → filling link_limit sec f ≡ written info.size.byte_size (contains (range_of info.range) (signed64 (field_value f))) (field_value f) sec at
     go (Ok r) q e k =
         let i : info ≡ info_from r = cc in
         rw (le-ltb 268435456 (length sec) within, le-ltb (length sec) at low, q, k, i, four t r q k, range_back r.range)
-        (same (ltb (length sec) (at + 4)) refl (contains r.range (signed64 (field_value f))) (field_value f))
     go (Err m) q e k = never (cc)
 
   pub filled_by : {info : RelocationKindInfo} {v : ℕ} {y : Answer Unit} {new : List ℕ} → Ok info ≡ found_of (lookup t) → fills t ≡ true → v ≡ field_value f
-      → y ≡ written_of (written info.size.byte_size (range_of info.range) v (part sec at))
-      → new ≡ after_filling (part sec at) (written info.size.byte_size (range_of info.range) v (part sec at))
+      → y ≡ written_of (written info.size.byte_size (contains (range_of info.range) (signed64 v)) v (part sec at) 0)
+      → new ≡ after_filling (part sec at) (written info.size.byte_size (contains (range_of info.range) (signed64 v)) v (part sec at) 0)
       → (filling_of (filling link_limit sec f) ≡ wrote sec at y) × (back sec at new ≡ after_filling sec (filling link_limit sec f))
   filled_by {info} e k u p q =
-      rw (p, q, u) (ap filling_of (written_is e k) ∙ answered sec at (nat_lt (length (part sec at)) info.size.byte_size) (contains (range_of info.range) (signed64 (field_value f))) _, put_back sec at _ _ (written_is e k))
+      let w = written_is e k ∙ within_part sec at low info.size.byte_size _ _ in
+      rw (p, q, u) (ap filling_of w ∙ answered sec at info.size.byte_size _ _, put_back sec at _ _ w)
 
--- reading as signed is std's
-pub signed : (x : ℕ) → to_z w64 x ≡ signed64 x
-unfolding signed64
-signed x = grind (arith, ints)
-
--- a value that is taken lies in the range
-pub fits : (b : Bool) → ◌≡◌ {A = Result Unit Refusal} (Ok tt) (cond b (Ok tt) (Err ValueOutOfRange)) → b ≡ true
-fits true e = refl
-fits false e = cc
+-- where it says filled, the section is Filled
+pub told : (sec : List ℕ) (f : Field) (base : ℕ) → loaded_at f base → filling_of (filling link_limit sec f) ≡ Ok true
+    → FilledAt f base sec (after_filling sec (filling link_limit sec f))
+unfolding after_filling
+told sec f base p = go (filling link_limit sec f) refl where
+  go : (y : Answer Fill) → filling link_limit sec f ≡ y → filling_of y ≡ Ok true → FilledAt f base sec (after_filling sec y)
+  go (Ok (filled new)) e t = (exact link_limit sec f).leaves base p new e
+  go (Ok unfilled) e t = never (cc)
+  go (Err n) e t = never (cc)

@@ -276,7 +276,7 @@ impl Field {
     }
 
     // The field with its sign, modulo 2^64.
-    #[tactic(auto, unfolding(rules::specs::Machine::signed32))]
+    #[tactic(auto, unfolding(rules::specs::Range::read_back))]
     fn immediate(self) -> u64
         ensures { result ≡ machine.signed32 self.value }
     {

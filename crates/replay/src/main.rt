@@ -10,7 +10,8 @@
 //   4 x86_64_r_type: kind, type (4)
 //   5 write_plt_entry: length lent, GOT (8), PLT (8), 0 or the refusal, 16 bytes of a buffer
 //   6 fill_section_padding: executable, length lent, 16 bytes of a buffer
-//   7 AllowedRange::contains: type (4), value (8), 0 or 1
+//   7 AllowedRange::contains: type (4), value (8), 0 or 1. For i64::MAX in an unchecked range it is 1, and 9 writes it: the
+//     Rust refuses both
 //   8 AllowedRange::from_byte_size: bytes, 0 signed or 1 unsigned, min (8), max (8)
 //   9 RelocationKindInfo::write_to_buffer: type (4), value (8), length lent, 255 (written), 15 (range) or 16 (no room), ten
 //     bytes of a buffer. Where both hold it is 16; the Rust itself tests the range first
@@ -192,7 +193,7 @@ fn answer_of(filled: Result<bool, Refusal>) -> u8 {
 fn write_agrees(line: Line) -> bool {
     relocation_from_raw(line.u32_at(1)).is_ok_and(|info| {
         buffer_agrees(line.byte(13), &line.bytes_at::<10>(15), |buffer| {
-            let written = elf_fill::write_to_buffer(info, line.u64_at(5), buffer);
+            let written = info.write_to_buffer(line.u64_at(5), buffer);
             answer_of(written.map(|_| true)) == line.byte(14)
         })
     })

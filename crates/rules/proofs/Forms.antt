@@ -13,14 +13,14 @@ use lib.ListN.{length, get_or, drop, length-drop}
 use lib.Seq.{get_or-drop}
 use Rattle.laws.proofs.Bools.{parts, either}
 use Rattle.laws.proofs.Keys.{is}
-use Rattle.rules.specs.Range.{signed64, byte_range}
+use Rattle.rules.specs.Range.{signed, contains, signed64, byte_range}
 use Rattle.rules.specs.Types.{lookup, earlier_types, later_types}
 use Rattle.rules.specs.Choose.{in_range}
 use Rattle.rules.specs.Rewrite.{relocated, Holds, Filled}
 use Rattle.rules.specs.Machine.{State, Result, stepped, word, signed32, field_at, read4, read8, Source, slot, imm, addr}
 use Rattle.rules.specs.Machine.{Action, bad, move, alu, call, jump, Form, form, decode, operand, perform, step_at, step}
 use Rattle.rules.specs.Meaning.{slot_value, Alike}
-use Rattle.rules.proofs.Arith.{between, field4-bytes, read8-lt, read8-mod, read8-low, in_signed, signed_low, signed_mod, back}
+use Rattle.rules.proofs.Arith.{field4-bytes, read8-lt, read8-mod, read8-low, signed_low, read_low, back}
 
 -- ---- the operand: a slot, and a filled field of the new type
 
@@ -35,27 +35,27 @@ abbrev serves : ℕ → Bool → Bool
 serves t w = eqb t 2 || cond w (eqb t 11 || eqb t 23) (eqb t 10)
 
 -- an absolute field of 32 bits, sign-extended to 64
-abs_wide : (v : ℕ) → v < word → T (between (negsuc 2147483647) (pos 2147483648) (signed64 ((v + 0) % word)))
+abs_wide : (v : ℕ) → v < word → T (contains (byte_range 4 signed) (signed64 ((v + 0) % word)))
     → signed32 ((v + 0) % word % 2 ^ 32) % word ≡ v
 abs_wide v h t =
     let e : (v + 0) % word ≡ v = omega arith in
-    let l : signed32 (v % 2 ^ 32) ≡ v = signed_low v h (in_signed v h (rw e at t)) in
+    let l : signed32 (v % 2 ^ 32) ≡ v = signed_low v h (rw e at t) in
     rw e (rw l (mod-eq_of_lt h))
 
 -- an absolute field of 32 bits, for a 32-bit operand
 abs_narrow : (m : ℕ → ℕ) (a : ℕ) → signed32 ((read8 m a + 0) % word % 2 ^ 32) % 2 ^ 32 ≡ read4 m a
 abs_narrow m a =
     let e : (read8 m a + 0) % word % 2 ^ 32 ≡ read8 m a % 2 ^ 32 = omega arith in
-    rw e (signed_mod (read8 m a % 2 ^ 32) (omega arith) ∙ read8-low m a)
+    rw e (read_low signed (read8 m a % 2 ^ 32) (omega arith) ∙ read8-low m a)
 
 -- a field relative to its own address p, added to next
 rel_wide : (v p q : ℕ) → v < word → q ≡ (p + 4) % word
-    → T (between (negsuc 2147483647) (pos 2147483648) (signed64 ((v + (word - 4) + (word - p % word)) % word)))
+    → T (contains (byte_range 4 signed) (signed64 ((v + (word - 4) + (word - p % word)) % word)))
     → (q + signed32 ((v + (word - 4) + (word - p % word)) % word % 2 ^ 32)) % word ≡ v
 rel_wide v p q h e t =
     let x : ℕ = (v + (word - 4) + (word - p % word)) % word in
     let b : x < word = mod-lt (v + (word - 4) + (word - p % word)) (lit< tt) in
-    rw (signed_low x b (in_signed x b t)) (back v p q h e)
+    rw (signed_low x b t) (back v p q h e)
 
 -- the slot lies at q, the new field at p, and next is n
 module _ (s : State) (q p n : ℕ) (next : n ≡ (p + 4) % word) where

@@ -10,16 +10,17 @@ use Rattle.rules.specs.Answer.{Answer}
 use Rattle.rules.specs.Record.{link_limit}
 use Rattle.rules.specs.Rewrite.{rewriting, Relaxed, unrelaxed, relaxed}
 use Rattle.rules.specs.Fill.{Fill, unfilled, filled, filling, after_filling}
-use Rattle.rules.specs.Machine.{signed32, field4, read4, read8, write8, put, result, exec, push, by_digit, via_rip, on_register, opcode, decode, step_at, rip_relative}
+use Rattle.rules.specs.Range.{read_back}
+use Rattle.rules.specs.Machine.{field4, read4, read8, write8, put, result, exec, push, by_digit, via_rip, on_register, opcode, decode, step_at, rip_relative}
 use Rattle.rules.specs.Meaning.{covered, head, begins, start, Instruction}
-use Rattle.rules.specs.Instances.{Case, state_of, relaxing_of, field_of, filling_of, is_filled, meets, Instance, MeaningWorked}
+use Rattle.rules.specs.Instances.{Case, state_of, relaxing_of, field_of, fill_after, is_filled, meets, Instance, MeaningWorked}
 use Rattle.laws.proofs.Bools.{and_left, and_right}
 use Rattle.rules.proofs.Fill.{exact}
 use Rattle.rules.proofs.OnLiterals.{relaxing_on_literals}
 use Rattle.rules.proofs.Theorem.{same_meaning_of}
 
 module _ (c : Case) (i : Instruction c.section c.record') where
-  from : (a : Answer Relaxed) → relaxing_of c ≡ a → T (is_filled (filling_of c a)) → Instance c
+  from : (a : Answer Relaxed) → relaxing_of c ≡ a → T (is_filled (fill_after c a)) → Instance c
   from (Err n) e t = absurd t
   from (Ok unrelaxed) e t = absurd t
   from (Ok (relaxed k n m x)) e t = fill (filling link_limit x.bytes (field_of c n x)) refl t where
@@ -48,7 +49,7 @@ instance c t =
     let d = leb (r.offset + 4) (length c.section) in
     let e = begins r.r_type (get_or c.section (start r) 0) in
     let f = rip_relative (get_or c.section (r.offset - 1) 0) in
-    let g = is_filled (filling_of c (relaxing_of c)) in
+    let g = is_filled (fill_after c (relaxing_of c)) in
     let t5 = and_left (a && b && d && e && f) g t in
     let t4 = and_left (a && b && d && e) f t5 in
     let t3 = and_left (a && b && d) e t4 in
@@ -64,7 +65,7 @@ instance c t =
     (relaxing_of c) refl (and_right (a && b && d && e && f) g t)
 
 pub worked : MeaningWorked
-unfolding relaxing_on_literals rewriting filling after_filling signed32 field4 read4 read8 write8 put result exec push by_digit via_rip on_register opcode decode step_at
+unfolding relaxing_on_literals rewriting filling after_filling read_back field4 read4 read8 write8 put result exec push by_digit via_rip on_register opcode decode step_at
 worked =
     record {
       all = refl;

@@ -23,7 +23,7 @@ plt_worked = record { order = refl; blank = refl; short = refl }
 
 pub fill_worked : FillWorked
 unfolding byte_range signed64 earlier_types later_types lookup in_range filling after_filling
-fill_worked = record { order = refl; others = refl; unsigned32 = refl; signed32 = refl; wraps = refl; ends = refl; kept = refl }
+fill_worked = record { first = refl; second = refl; third = refl; unsigned32 = refl; signed32 = refl; sums = refl; wraps = refl; ends = refl; kept = refl }
 
 pub starred_hold : StarredHold
 unfolding relaxing_on_literals template displacement in_reach plt_answer plt_bytes

@@ -2,11 +2,12 @@
 use mathlib.Core.Path.{◌≡◌, refl}
 use Prim.Native.Nat.{◌+◌, ◌-◌, ◌%◌}
 use native.Mathlib.Omega.{arith}
-use Rattle.rules.specs.Machine.{signed32, field4, read4, read8, write8, put, even_parity, negative, same_sign, result, flags_after, exec, push, by_digit, via_rip, on_register, opcode, decode, word, step_at, run}
+use Rattle.rules.specs.Range.{read_back}
+use Rattle.rules.specs.Machine.{field4, read4, read8, write8, put, even_parity, negative, same_sign, result, flags_after, exec, push, by_digit, via_rip, on_register, opcode, decode, word, step_at, run}
 use Rattle.rules.specs.Runs.{Measured}
 
 pub measured : Measured
-unfolding signed32 field4 read4 read8 write8 put even_parity negative same_sign result flags_after exec push by_digit via_rip on_register opcode decode step_at run
+unfolding read_back field4 read4 read8 write8 put even_parity negative same_sign result flags_after exec push by_digit via_rip on_register opcode decode step_at run
 measured =
     record {
       steps = refl;

@@ -19,7 +19,7 @@ use Rattle.rules.specs.Answer.{Answer}
 use Rattle.rules.specs.Record.{Limit, too_long, past, flags_above, kind_above}
 use Rattle.rules.specs.Choose.{Choice, none, chosen, is_rex_w, choose, choosing}
 use Rattle.rules.specs.Rewrite.{to_absolute, Rewritten, Filled, relaxed, rewrite, rewriting, claims, relax_chosen, relaxing}
-use Rattle.rules.specs.Meaning.{head, begins, start, Instruction, slot_value, Alike, EndsAlike, SameMeaning}
+use Rattle.rules.specs.Meaning.{head, begins, Instruction, slot_value, Alike, Anyhow, EndsAlike, SameMeaning}
 use Rattle.rules.specs.Machine.{State, step}
 use Rattle.laws.proofs.Bools.{either, never}
 use Rattle.laws.proofs.Keys.{is}
@@ -28,13 +28,6 @@ use Rattle.rules.proofs.Fill.{exact}
 use Rattle.rules.proofs.Forms.{addend_for}
 use Rattle.rules.proofs.Places.{old_ops, new_ops, digits, new_types, Start, bounds, plain, rex, rex2, lea_at, absolute_at, mov_at, call_at, jmp_at}
 use Rattle.rules.proofs.Walked.{Prefixed, Bare, Cases, walk}
-
--- what is shown of a record's new type and rewritten section, whatever fills the field
-abbrev Anyhow : List ℕ → Relocation → ℕ → Rewritten → Type 0
-Anyhow sec r t x =
-    (base : ℕ) (s : State) (new : List ℕ)
-    → Filled t x.addend x.offset base (slot_value sec r.offset base s.mem) x.bytes new
-    → Alike (step sec (start r) base s) (step new (start r) base s)
 
 -- what filling leaves is Filled
 ends_alike : {sec : List ℕ} {r : Relocation} {t : ℕ} {x : Rewritten} → Anyhow sec r t x → EndsAlike sec r t x

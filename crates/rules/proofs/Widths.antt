@@ -1,15 +1,19 @@
 -- The one fact of the widths 1, 2, 4 and 8: a value lies in the range of a field exactly where the field's bytes, read back, are the value.
--- It is shown over the half h of the field's 2 ^ (8 * w) values, by where the value x lies: below h, in the middle, or in the last h.
+-- It is shown over the half h of the field's 2 ^ (8 * w) values, by where the value x lies: below h, in the middle, or in the last h. And a
+-- number's low bytes at any width, one by one and as a number.
 -- Assumes nothing.
 use mathlib.Core.Path.{◌≡◌, refl, sym, ap, ◌∙◌}
 use mathlib.Core.Bool.{Bool, true, false, cond, ◌||◌}
-use Prim.Native.Nat.{ℕ, ◌+◌, ◌-◌, ◌*◌, ◌%◌, ◌^◌, ◌≤◌, ◌<◌}
+use Prim.Native.Nat.{ℕ, zero, suc, ◌+◌, ◌-◌, ◌*◌, ◌/◌, ◌%◌, ◌^◌, ◌≤◌, ◌<◌}
 use native.Mathlib.Omega.{arith}
-use native.Mathlib.Nat.{add-zero, mod-eq_of_lt, mod-lt, mul-add-mod_self_left}
+use native.Mathlib.Nat.{add-zero, mod-eq_of_lt, mod-lt, mul-add-mod_self_left, div-div-eq-div-mul, div-one, mod-one, mul-suc, pow-succ'}
+use lib.Arith.{mod-mul}
+use lib.Pow.{pow-add, pow_pos}
+use lib.ListN.{length, get_or}
 use lib.Dec.{eqb, ltb, leb, leb-zero, lit<, lit≤}
 use lib.IntN.{pos}
 use borrow.Author.Tests.{lt-ltb, le-ltb, eq-eqb, ne_eqb, ltb-true, ltb-false, leb-true, leb-false}
-use Rattle.rules.specs.Range.{within, contains, Sign, signed, unsigned, minus, byte_range, signed64, read_back, Keeps}
+use Rattle.rules.specs.Range.{within, contains, Sign, signed, unsigned, minus, byte_range, signed64, read_back, Keeps, low_first, from_low, LowPart}
 
 -- a test decides a claim
 by : {X : Type 0} (b : Bool) → (b ≡ true → X) → (b ≡ false → X) → X
@@ -87,3 +91,22 @@ keeps four s = below 4 refl (lit< tt) refl (lit≤ tt) (2 ^ 32 - 1) refl s
 keeps eight signed =
     record { keeps = λ x p. rw (mod-eq_of_lt p, add-zero) (by (ltb x (2 ^ 63)) (λ e. rw (e, eq-eqb x x refl)) (λ e. rw (e, eq-eqb x x refl))) }
 keeps eight unsigned = record { keeps = λ x p. rw (mod-eq_of_lt p, eq-eqb x x refl) }
+
+-- ---- bytes, low first
+
+pub length-low : (w x : ℕ) → length (low_first w x) ≡ w
+length-low zero x = refl
+length-low (suc w) x = ap suc (length-low w (x / 256))
+
+pub low_at : (w x i : ℕ) → i < w → get_or (low_first w x) i 0 ≡ x / 256 ^ i % 256
+low_at zero x i h = absurd (omega arith)
+low_at (suc w) x zero h = rw div-one
+low_at (suc w) x (suc i) h = low_at w (x / 256) i (omega arith) ∙ rw (div-div-eq-div-mul x 256 (256 ^ i), pow-succ' 256 i)
+
+pub low_part : (w : ℕ) → LowPart w
+low_part w = record { reads = go w } where
+  go : (w x : ℕ) → from_low (low_first w x) ≡ x % 2 ^ (8 * w)
+  go zero x = sym (mod-one x)
+  go (suc w) x =
+      let e : 2 ^ (8 * suc w) ≡ 2 ^ (8 * w) * 256 = rw mul-suc (pow-add 2 (8 * w) 8) in
+      rw (e, mod-mul x {m = 2 ^ (8 * w)} {c = 256} (pow_pos (8 * w)) (lit< tt), go w (x / 256)) (omega arith)

@@ -8,10 +8,10 @@ use Rattle.rules.specs.declared.Relocation.{Relocation}
 use Rattle.rules.specs.declared.Field.{Field}
 use Rattle.rules.specs.Record.{link_limit, relocation}
 use Rattle.rules.specs.Choose.{Choice, none, chosen, choosing}
-use Rattle.rules.specs.Rewrite.{Rewritten, Relaxed, unrelaxed, relaxed, rewriting, relaxing, Filled}
-use Rattle.rules.specs.Fill.{field, Fill, unfilled, filled, filling, after_filling}
+use Rattle.rules.specs.Rewrite.{Rewritten, Relaxed, unrelaxed, relaxed, rewriting, relaxing}
+use Rattle.rules.specs.Fill.{Fill, unfilled, filled, filling, after_filling, FilledAt}
 use Rattle.rules.specs.Machine.{State, Result, stop, stepped, word, signed32, field_at, rip_relative, step}
-use Rattle.rules.specs.Meaning.{covered, head, begins, start, Instruction, slot_value, Alike}
+use Rattle.rules.specs.Meaning.{covered, head, begins, start, Instruction, field_after, Alike}
 
 -- a record of a section that is loaded at `base`, with the slot's value
 pub record Case : Type 0 where
@@ -37,17 +37,13 @@ state_of c =
 abbrev pub relaxing_of : Case → Answer Relaxed
 relaxing_of c = relaxing link_limit c.section c.record'
 
-abbrev pub value_of : Case → ℕ
-value_of c = slot_value c.section c.record'.offset c.base (state_of c).mem
-
--- what fill is given: the new type, offset and addend, the load address of that offset, and the slot's value
 abbrev pub field_of : Case → ℕ → Rewritten → Field
-field_of c t x = field t x.offset ((c.base + x.offset) % word) (value_of c) x.addend
+field_of c t x = field_after c.section c.record' t x c.base (state_of c)
 
-abbrev pub filling_of : Case → Answer Relaxed → Answer Fill
-filling_of c (Err n) = Err n
-filling_of c (Ok unrelaxed) = Ok unfilled
-filling_of c (Ok (relaxed k t m x)) = filling link_limit x.bytes (field_of c t x)
+abbrev pub fill_after : Case → Answer Relaxed → Answer Fill
+fill_after c (Err n) = Err n
+fill_after c (Ok unrelaxed) = Ok unfilled
+fill_after c (Ok (relaxed k t m x)) = filling link_limit x.bytes (field_of c t x)
 
 -- the premises, as one test
 abbrev pub is_filled : Answer Fill → Bool
@@ -61,7 +57,7 @@ meets c =
     let type = r.r_type in
     covered type && leb (head type) r.offset && leb (r.offset + 4) (length c.section)
     && begins type (get_or c.section (start r) 0) && rip_relative (get_or c.section (r.offset - 1) 0)
-    && is_filled (filling_of c (relaxing_of c))
+    && is_filled (fill_after c (relaxing_of c))
 
 -- what a case shows: it meets every premise of the theorem, and the two steps end alike
 pub record Instance (c : Case) : Type 0 where
@@ -73,7 +69,7 @@ pub record Instance (c : Case) : Type 0 where
   pub relaxes : relaxing_of c ≡ Ok (relaxed kind new_type mandatory result)
   pub new : List ℕ
   pub fills : filling link_limit result.bytes (field_of c new_type result) ≡ Ok (filled new)
-  pub holds : Filled new_type result.addend result.offset c.base (value_of c) result.bytes new
+  pub holds : FilledAt (field_of c new_type result) c.base result.bytes new
   pub alike : Alike (step c.section (start c.record') c.base (state_of c)) (step new (start c.record') c.base (state_of c))
 
 -- plant one's load, into rbp, and plant two's, into r13, whose high bit moves
@@ -135,7 +131,7 @@ chosen_as c = by (choosing link_limit c.section c.record') where
 
 -- the section, relaxed and filled; a register after the instruction
 abbrev pub section_left : Case → List ℕ
-section_left c = after_filling [] (filling_of c (relaxing_of c))
+section_left c = after_filling [] (fill_after c (relaxing_of c))
 
 abbrev pub register_after : Case → ℕ → ℕ
 register_after c k = at (step (section_left c) (start c.record') c.base (state_of c)) where

@@ -1,8 +1,8 @@
 -- Document 01's machine ("Demand 3's machine is fed an instruction's bytes from the section, the address they are loaded at and that
 -- demand's state"). Sections are of Intel's SDM, volumes 1 and 2, and of the APX specification. Assumes nothing.
-use Rattle.std.specs.Prelude.{Bool, true, false, not, ◌&&◌, cond, List, ℕ, zero, suc, ◌+◌, ◌-◌, ◌*◌, ◌/◌, ◌%◌, ◌^◌, leb, ltb, eqb, length, get_or, drop}
+use Rattle.std.specs.Prelude.{Bool, true, false, not, ◌&&◌, cond, List, [], ◌∷◌, ℕ, zero, suc, ◌+◌, ◌-◌, ◌*◌, ◌/◌, ◌%◌, ◌^◌, leb, ltb, eqb, length, get_or, drop}
 use Rattle.std.specs.Bool.{beq}
-use Rattle.rules.specs.Range.{bit}
+use Rattle.rules.specs.Range.{bit, signed, read_back, from_low}
 
 -- ---- the state: 32 registers, six status flags, memory of bytes at 64-bit addresses (SDM 1: 3.4.1, 3.4.3.1; APX: 32 registers)
 
@@ -38,12 +38,12 @@ abbrev pub size : Bool → ℕ
 size w = cond w (2 ^ 64) (2 ^ 32)
 
 -- a 32-bit field read as signed, modulo 2^64: displacements and immediates (SDM 2: 2.2.1.3, 2.2.1.5, 2.2.1.6)
-unfoldable pub signed32 : ℕ → ℕ
-signed32 d = cond (ltb d (2 ^ 31)) d (d + (2 ^ 64 - 2 ^ 32))
+abbrev pub signed32 : ℕ → ℕ
+signed32 = read_back 4 signed
 
 -- four bytes, low first
 unfoldable pub field4 : ℕ → ℕ → ℕ → ℕ → ℕ
-field4 b0 b1 b2 b3 = b0 % 256 + (b1 % 256) * 256 + (b2 % 256) * 65536 + (b3 % 256) * 16777216
+field4 b0 b1 b2 b3 = from_low (b0 % 256 ∷ b1 % 256 ∷ b2 % 256 ∷ b3 % 256 ∷ [])
 
 abbrev pub field_at : List ℕ → ℕ → ℕ
 field_at code at = field4 (get_or code at 0) (get_or code (at + 1) 0) (get_or code (at + 2) 0) (get_or code (at + 3) 0)

@@ -3,10 +3,11 @@
 use Rattle.std.specs.Prelude.{◌≡◌, Bool, cond, ◌||◌, List, ℕ, ◌+◌, ◌-◌, ◌%◌, ◌≤◌, T, eqb, length, get_or, Ok}
 use Rattle.x86_64_kind.specs.declared.RelaxationKind.{RelaxationKind}
 use Rattle.rules.specs.declared.Relocation.{Relocation}
+use Rattle.rules.specs.declared.Field.{Field}
 use Rattle.rules.specs.Record.{Limit}
 use Rattle.rules.specs.Choose.{chosen, choosing, is_rex_w}
-use Rattle.rules.specs.Rewrite.{Rewritten, rewriting, relaxed, relaxing, Filled}
-use Rattle.rules.specs.Fill.{field, filled, filling}
+use Rattle.rules.specs.Rewrite.{Rewritten, rewriting, relaxed, relaxing}
+use Rattle.rules.specs.Fill.{field, filled, filling, FilledAt}
 use Rattle.rules.specs.Machine.{State, Result, stepped, word, signed32, field_at, read8, rip_relative, step}
 
 -- "types 9, 22 and 41 to 44"
@@ -42,18 +43,22 @@ pub record Alike (x y : Result) : Type 0 where
   pub first : x ≡ stepped after goes_on
   pub second : y ≡ stepped after goes_on
 
--- a record whose new type is t, with its section rewritten: for every load address, state and filled section
+-- document 02, card 4: "the fill being given relaxing's type, offset and addend, the load address of that offset, and the slot's value as
+-- symbol value"; t is the new type, x what rewriting gave
+abbrev pub field_after : List ℕ → Relocation → ℕ → Rewritten → ℕ → State → Field
+field_after sec r t x base s = field t x.offset ((base + x.offset) % word) (slot_value sec r.offset base s.mem) x.addend
+
+-- for every load address, state and section that is Filled, whatever program filled it
+abbrev pub Anyhow : List ℕ → Relocation → ℕ → Rewritten → Type 0
+Anyhow sec r t x =
+    (base : ℕ) (s : State) (new : List ℕ) → FilledAt (field_after sec r t x base s) base x.bytes new
+    → Alike (step sec (start r) base s) (step new (start r) base s)
+
+-- and for what filling leaves, under any limit: nothing is asked of its bytes
 pub record EndsAlike (sec : List ℕ) (r : Relocation) (t : ℕ) (x : Rewritten) : Type 0 where
-  -- whatever program filled it
-  pub anyhow :
-      (base : ℕ) (s : State) (new : List ℕ)
-      → Filled t x.addend x.offset base (slot_value sec r.offset base s.mem) x.bytes new
-      → Alike (step sec (start r) base s) (step new (start r) base s)
-  -- document 02, card 4: "the fill being given relaxing's type, offset and addend, the load address of that offset, and the slot's value as
-  -- symbol value"
+  pub anyhow : Anyhow sec r t x
   pub by_fill :
-      (base : ℕ) (s : State) (new : List ℕ) (l : Limit)
-      → filling l x.bytes (field t x.offset ((base + x.offset) % word) (slot_value sec r.offset base s.mem) x.addend) ≡ Ok (filled new)
+      (base : ℕ) (s : State) (new : List ℕ) (l : Limit) → filling l x.bytes (field_after sec r t x base s) ≡ Ok (filled new)
       → Alike (step sec (start r) base s) (step new (start r) base s)
 
 -- what is said of a section's records, whatever the limit

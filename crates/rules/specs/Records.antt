@@ -49,41 +49,54 @@ pub record PltWorked : Type 0 where
 abbrev fill_at : ℕ → ℕ → ℕ → ℕ → ℕ → ℤ → Answer Fill
 fill_at t n at p v a = filling (record { most = 8; refusal = SectionTooLong }) (lent n) (field t at p v a)
 
--- type t in four bytes, with addend 0
+-- the types up to 52 in so many bytes, with a value that no checked range has
+abbrev each : ℕ → ℕ → List (Answer Fill)
+each n at = map (λ (t : ℕ). fill_at t n at 0 (2 ^ 63) (pos 0)) (from 0 53)
+
+-- type t in four bytes, with address and addend 0
 abbrev fill4 : ℕ → ℕ → Answer Fill
 fill4 t v = fill_at t 4 0 0 v (pos 0)
-
--- n types that are left alone
-abbrev left : ℕ → List (Answer Fill)
-left n = replicate n (Ok unfilled)
 
 abbrev bytes4 : ℕ → ℕ → ℕ → ℕ → Answer Fill
 bytes4 a b c d = Ok (filled (a ∷ b ∷ c ∷ d ∷ []))
 
+-- n types that are left alone, that aren't known, that are cut
+abbrev left : ℕ → List (Answer Fill)
+left n = replicate n (Ok unfilled)
+
+abbrev strange : ℕ → List (Answer Fill)
+strange n = replicate n (Err UnknownType)
+
+abbrev short : ℕ → List (Answer Fill)
+short n = replicate n (Err FieldNotInside)
+
 pub record FillWorked : Type 0 where
-  -- "The order is 1, 2, 7, 16, 15": each with all that come after it
-  pub order :
-      fill_at 28 9 10 0 (2 ^ 64 - 1) (pos 0) ∷ fill_at 28 3 4 0 (2 ^ 64 - 1) (pos 0) ∷ fill_at 28 3 3 0 (2 ^ 64 - 1) (pos 0)
-      ∷ fill_at 10 3 0 0 (2 ^ 64 - 1) (pos 0) ∷ fill_at 10 4 0 0 (2 ^ 64 - 1) (pos 0) ∷ []
-      ≡ Err SectionTooLong ∷ Err OffsetAboveLength ∷ Err UnknownType ∷ Err FieldNotInside ∷ Err ValueOutOfRange ∷ []
-  -- "types 2, 10, 11 and 23" of the 39, by 16; the others "with no test of 16 or 15", "in an empty section too"
-  pub others :
-      map (λ (e : Entry). fill_at e.type 0 0 0 (2 ^ 64 - 1) (pos 0)) types
-      ≡ left 2 ++ (Err FieldNotInside ∷ left 3) ++ (Err FieldNotInside ∷ Err FieldNotInside ∷ left 9) ++ (Err FieldNotInside ∷ left 21)
-  -- "type 10 takes 2^32 − 1 and refuses −1; 2^63 and 2^64 − 1 are read as signed"
+  -- "The order is 1, 2, 7, 16, 15": each with all that come after it, of every type
+  pub first : each 9 10 ≡ replicate 53 (Err SectionTooLong)
+  pub second : each 3 4 ≡ replicate 53 (Err OffsetAboveLength)
+  -- in an empty section 7; of "types 2, 10, 11 and 23" 16; the others none, "with no test of 16 or 15"
+  pub third :
+      each 0 0
+      ≡ left 2 ++ short 1 ++ left 2 ++ strange 4 ++ left 1 ++ short 2 ++ left 4 ++ strange 1 ++ left 1 ++ strange 1 ++ left 4 ++ short 1 ++ left 4
+      ++ strange 1 ++ left 1 ++ strange 1 ++ left 5 ++ strange 5 ++ left 11 ++ strange 1
+  -- "15 when the value is outside the type's range", "read as signed": at both ends
   pub unsigned32 :
       map (fill4 10) (0 ∷ (2 ^ 32 - 1) ∷ (2 ^ 32) ∷ (2 ^ 63) ∷ (2 ^ 64 - 1) ∷ [])
       ≡ bytes4 0 0 0 0 ∷ bytes4 0xFF 0xFF 0xFF 0xFF ∷ Err ValueOutOfRange ∷ Err ValueOutOfRange ∷ Err ValueOutOfRange ∷ []
   pub signed32 :
-      map (fill4 11) ((2 ^ 31 - 1) ∷ (2 ^ 31) ∷ (2 ^ 63) ∷ (2 ^ 64 - 2 ^ 31 - 1) ∷ (2 ^ 64 - 2 ^ 31) ∷ (2 ^ 64 - 1) ∷ [])
-      ≡ bytes4 0xFF 0xFF 0xFF 0x7F ∷ Err ValueOutOfRange ∷ Err ValueOutOfRange ∷ Err ValueOutOfRange ∷ bytes4 0 0 0 0x80 ∷ bytes4 0xFF 0xFF 0xFF 0xFF ∷ []
-  -- "wrapping in the middle of the sum is no refusal"; the address counts for type 2 alone, and is given, not computed from the offset
+      map (λ (t : ℕ). map (fill4 t) ((2 ^ 31 - 1) ∷ (2 ^ 31) ∷ (2 ^ 63) ∷ (2 ^ 64 - 2 ^ 31 - 1) ∷ (2 ^ 64 - 2 ^ 31) ∷ (2 ^ 64 - 1) ∷ [])) (2 ∷ 11 ∷ 23 ∷ [])
+      ≡ replicate 3 (bytes4 0xFF 0xFF 0xFF 0x7F ∷ Err ValueOutOfRange ∷ Err ValueOutOfRange ∷ Err ValueOutOfRange ∷ bytes4 0 0 0 0x80 ∷ bytes4 0xFF 0xFF 0xFF 0xFF ∷ [])
+  -- "value plus addend, minus the field's address for type 2", which is given, and not computed from the offset
+  pub sums : map (λ (t : ℕ). fill_at t 4 0 7 3 (negsuc 1)) (2 ∷ 10 ∷ 11 ∷ 23 ∷ []) ≡ bytes4 0xFA 0xFF 0xFF 0xFF ∷ replicate 3 (bytes4 1 0 0 0)
+  -- "wrapping at 2^64": no refusal
   pub wraps :
-      fill_at 10 4 0 7 (2 ^ 64 - 1) (pos 5) ∷ fill_at 2 4 0 7 3 (negsuc 3) ∷ fill_at 2 4 0 (2 ^ 64 - 1) 0 (pos 0) ∷ []
-      ≡ bytes4 4 0 0 0 ∷ bytes4 0xF8 0xFF 0xFF 0xFF ∷ bytes4 1 0 0 0 ∷ []
-  -- "It writes four bytes, low byte first, and no others"; "up to its very end is inside"
+      fill_at 10 4 0 0 (2 ^ 64 - 2 ^ 40) (pos (2 ^ 40 + 4)) ∷ fill_at 11 4 0 0 (2 ^ 63) (negsuc (2 ^ 63 - 1)) ∷ fill_at 2 4 0 (2 ^ 64 - 1) 0 (pos 0) ∷ []
+      ≡ bytes4 4 0 0 0 ∷ bytes4 0 0 0 0 ∷ bytes4 1 0 0 0 ∷ []
+  -- "It writes four bytes, low byte first, and no others": up to the section's very end
   pub ends :
       map (λ (at : ℕ). fill_at 23 8 at 0 0x1234 (pos 0)) (3 ∷ 4 ∷ 5 ∷ [])
       ≡ Ok (filled (lent 3 ++ (0x34 ∷ 0x12 ∷ 0 ∷ 0 ∷ 0xA5 ∷ []))) ∷ Ok (filled (lent 4 ++ (0x34 ∷ 0x12 ∷ 0 ∷ 0 ∷ []))) ∷ Err FieldNotInside ∷ []
-  -- "A refusal writes no byte"; none "leave the section unchanged"
-  pub kept : map (after_filling (lent 4)) (fill4 10 (2 ^ 64 - 1) ∷ fill4 4 0 ∷ fill4 10 0 ∷ []) ≡ lent 4 ∷ lent 4 ∷ replicate 4 0 ∷ []
+  -- "A refusal gives its number alone"; none "leave the section unchanged"
+  pub kept :
+      map (after_filling (lent 4)) (map Err (SectionTooLong ∷ OffsetAboveLength ∷ UnknownType ∷ FieldNotInside ∷ ValueOutOfRange ∷ []) ++ (Ok unfilled ∷ fill4 10 0 ∷ []))
+      ≡ replicate 6 (lent 4) ++ (replicate 4 0 ∷ [])

@@ -39,7 +39,7 @@ pub struct Field {
 // that give document 01's records.
 pub fn section_limit() -> usize
     ensures value { result ≡ link_limit.most }
-    ensures by_index { (sec : List ℕ) → SameMeaning sec }
+    ensures same_meaning { (sec : List ℕ) → SameMeaning sec }
     ensures meaning_worked { MeaningWorked }
     ensures measured { Measured }
     ensures starred_hold { StarredHold }

@@ -51,7 +51,7 @@ const PARTIAL: u8 = 5;
 pub struct Linked<'a> {
     pub object: &'a Object,
     pub section: &'a Section,
-    /// The section's.
+    /// Where the section is loaded.
     pub address: u64,
     pub thread_pointer: u64,
     pub records: Vec<Record>,

@@ -97,6 +97,19 @@ fn addresses() {
     assert_eq!((fixed, position_independent), (0x400000, 0));
 }
 
+/// The sections' sizes, by readelf, added up; .tdata is the last, and the thread pointer its end.
+#[test]
+fn places_of_sections() {
+    let objects = read(&["sequences.o"]);
+    let expected = [0, 0x30f, 0x38d, 0x404, 0x406, 0x408];
+    for (kind, base) in [(0, 0x400000), (1, 0)] {
+        let linked = objects::link(&objects, kind);
+        let found: Vec<u64> = linked.iter().map(|it| it.address - base).collect();
+        assert_eq!(found, expected);
+        assert!(linked.iter().all(|it| it.thread_pointer - base == 0x41c));
+    }
+}
+
 #[test]
 fn the_first_definition_wins_and_a_strong_one_a_common_one() {
     let common = read(&["code-gcc-pic-common.o"]);

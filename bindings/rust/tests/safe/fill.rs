@@ -7,17 +7,16 @@ use jitamoro::Fill;
 use jitamoro::Pass;
 use jitamoro::Record;
 use jitamoro::Refusal;
-use jitamoro::Step;
 use jitamoro::fill;
 use jitamoro::relax;
 use jitamoro::relocation_from_raw;
 
-/// A field at an offset, with address and addend 0.
+/// A field at an offset, with place and addend 0.
 fn field(relocation_kind: u32, offset_in_section: u64, value: i64) -> Field {
     Field {
         relocation_kind,
         offset_in_section,
-        address: 0,
+        place: 0,
         value: value as u64,
         addend: 0,
     }
@@ -44,54 +43,72 @@ fn ends_of_the_ranges() {
         check(field(r_type, 3, value), 8, Ok(Fill::Filled), low);
     };
     for r_type in [2, 11, 23] {
-        [i64::from(i32::MIN), -1, 0, i64::from(i32::MAX)].map(|value| filled(r_type, value));
+        for value in [i64::from(i32::MIN), -1, 0, i64::from(i32::MAX)] {
+            filled(r_type, value);
+        }
         for value in [1 << 31, -(1 << 31) - 1, 1 << 32, i64::MIN, i64::MAX] {
             check(field(r_type, 3, value), 8, far, &[]);
         }
     }
-    [0, i64::from(u32::MAX)].map(|value| filled(10, value));
+    for value in [0, i64::from(u32::MAX)] {
+        filled(10, value);
+    }
     for value in [-1, 1 << 32, i64::MIN, i64::MAX] {
         check(field(10, 3, value), 8, far, &[]);
     }
 }
 
+/// The types that are filled; one that isn't known, and one that is left alone.
+const FILLED: [u32; 4] = [2, 10, 11, 23];
+const UNKNOWN: [u32; 1] = [52];
+const ALL: [u32; 6] = [2, 10, 11, 23, 52, 4];
+
 /// Each refusal with all that come after it.
 #[test]
 fn order() {
-    check(field(28, 9, -1), 8, Err(Refusal::OffsetAboveLength), &[]);
-    check(field(28, 8, -1), 8, Err(Refusal::UnknownType), &[]);
-    check(field(10, 5, -1), 8, Err(Refusal::FieldNotInside), &[]);
-    check(field(10, 4, -1), 8, Err(Refusal::ValueOutOfRange), &[]);
-    check(field(11, 4, -1), 8, Ok(Fill::Filled), &[0xff; 4]);
-    check(
-        field(10, u64::MAX, -1),
-        8,
-        Err(Refusal::OffsetAboveLength),
-        &[],
-    );
-    let mut section = vec![0; 268_435_457];
-    let long = fill(&field(28, u64::MAX, -1), &mut section);
-    assert_eq!(long, Err(Refusal::SectionTooLong));
-    assert!(section.iter().all(|&byte| byte == 0));
-}
-
-/// Types that are known and not filled, in an empty section too.
-#[test]
-fn other_types() {
-    let known = (0..64).filter(|&r_type| relocation_from_raw(r_type).is_ok());
-    for r_type in known.filter(|r_type| ![2, 10, 11, 23].contains(r_type)) {
-        check(field(r_type, 0, -1), 0, Ok(Fill::Nothing), &[]);
-        check(field(r_type, 0, -1), 8, Ok(Fill::Nothing), &[]);
+    let mut long = vec![0; 268_435_457];
+    for r_type in ALL {
+        let refused = fill(&field(r_type, u64::MAX, i64::MIN), &mut long);
+        assert_eq!(refused, Err(Refusal::SectionTooLong));
+    }
+    assert!(long.iter().all(|&byte| byte == 0));
+    for (r_types, offset, refusal) in [
+        (&ALL[..], u64::MAX, Refusal::OffsetAboveLength),
+        (&ALL, 9, Refusal::OffsetAboveLength),
+        (&UNKNOWN, 8, Refusal::UnknownType),
+        (&FILLED, 8, Refusal::FieldNotInside),
+        (&FILLED, 5, Refusal::FieldNotInside),
+        (&FILLED, 4, Refusal::ValueOutOfRange),
+    ] {
+        for &r_type in r_types {
+            check(field(r_type, offset, i64::MIN), 8, Err(refusal), &[]);
+        }
+    }
+    for r_type in FILLED {
+        check(field(r_type, 4, 0), 8, Ok(Fill::Filled), &[0; 4]);
     }
 }
 
-/// The sum may wrap on the way; the address counts for type 2 alone.
+/// Types that are known and not filled, with no test of field or value.
+#[test]
+fn other_types() {
+    let known = (0..64).filter(|&r_type| relocation_from_raw(r_type).is_ok());
+    let others: Vec<u32> = known.filter(|r_type| !FILLED.contains(r_type)).collect();
+    assert_eq!(others.len(), 35);
+    for r_type in others {
+        for (offset, length, value) in [(0, 0, i64::MIN), (5, 8, 0), (4, 8, i64::MIN), (4, 8, 0)] {
+            check(field(r_type, offset, value), length, Ok(Fill::Nothing), &[]);
+        }
+    }
+}
+
+/// The sum may wrap on the way; the place counts for type 2 alone.
 #[test]
 fn sums() {
-    let at = |relocation_kind, address, value, addend| Field {
+    let at = |relocation_kind, place, value, addend| Field {
         relocation_kind,
         offset_in_section: 0,
-        address,
+        place,
         value,
         addend,
     };
@@ -117,7 +134,7 @@ fn sums() {
 fn check_relaxed(record: Record, value: u64, section: &str, expected: &str) {
     let mut section = bytes(section);
     let relaxed = relax(&record, &mut section).unwrap().unwrap();
-    let field = relaxed.field(0x401000 + relaxed.offset_in_section, value);
+    let field = relaxed.field_in(0x401000, value);
     assert_eq!(fill(&field, &mut section), Ok(Fill::Filled));
     assert_eq!(section, bytes(expected), "{record:?}");
 }
@@ -149,31 +166,34 @@ fn relaxed_records() {
     check_relaxed(branch, 0x402000, "FF 25 10 00 00 00", "E9 FB 0F 00 00 90");
 }
 
-/// A record that nothing is chosen for is filled by its own type, a skipped one by none.
+/// The fields that a pass's steps leave: relaxing's, none of the call that is skipped, and a record's own, in a section
+/// at 0x401000.
 #[test]
-fn unrelaxed_records() {
+fn steps() {
     let mut section = bytes("66 48 8D 3D 00 00 00 00 66 66 48 E8 00 00 00 00 00 00 00 00");
-    let mut pass = Pass::fresh();
-    let Step::Relaxed(relaxed) = pass.step(&record(19, 4, 1, 0), &mut section).unwrap() else {
-        panic!("a relaxation");
-    };
-    let address = Record {
+    let own = Record {
         rel_addend: 8,
-        ..record(11, 16, 1, 0)
+        ..record(2, 16, 1, 0)
     };
-    assert_eq!(
-        pass.step(&record(4, 12, 1, 0), &mut section),
-        Ok(Step::Skipped)
-    );
-    assert_eq!(pass.step(&address, &mut section), Ok(Step::Nothing));
-    assert_eq!(
-        fill(&relaxed.field(0, -16i64 as u64), &mut section),
-        Ok(Fill::Filled)
-    );
-    assert_eq!(
-        fill(&address.field(0, 0x1000), &mut section),
-        Ok(Fill::Filled)
-    );
-    let expected = "64 48 8B 04 25 00 00 00 00 48 8D 80 F0 FF FF FF 08 10 00 00";
+    let (sequence, call) = (record(19, 4, 1, 0), record(2, 12, 1, 0));
+    let mut pass = Pass::fresh();
+    let walk = [
+        (
+            sequence,
+            -16i64 as u64,
+            Some("R_X86_64_TPOFF32 at offset 0xc"),
+        ),
+        (call, 0x402000, None),
+        (own, 0x402000, Some("R_X86_64_PC32 at offset 0x10")),
+    ];
+    for (record, value, expected) in walk {
+        let step = pass.step(&record, &mut section).unwrap();
+        let field = step.field_in(&record, 0x401000, value);
+        assert_eq!(field.map(|it| it.to_string()).as_deref(), expected);
+        if let Some(field) = field {
+            assert_eq!(fill(&field, &mut section), Ok(Fill::Filled));
+        }
+    }
+    let expected = "64 48 8B 04 25 00 00 00 00 48 8D 80 F0 FF FF FF F8 0F 00 00";
     assert_eq!(section, bytes(expected));
 }

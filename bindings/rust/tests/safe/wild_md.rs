@@ -20,5 +20,5 @@ fn code_is_the_examples() {
             "not in wild_arch.rs:\n{code}"
         );
     }
-    assert!(blocks.len() >= 8, "{}", blocks.len());
+    assert_eq!(blocks.len(), 11);
 }

@@ -2,7 +2,7 @@ use Rattle.std.proofs.Common.{◌≡◌, ◌+◌, ◌-◌, suc, length, arith}
 use native.Mathlib.Nat.{sub-zero}
 use Rattle.laws.proofs.Stores.{run_whole}
 use Rattle.rules.specs.Range.{low_first}
-use Rattle.rules.proofs.Fill.{length-low}
+use Rattle.rules.proofs.Widths.{length-low}
 use Rattle.elf.proofs.write_low_first.Goals as goal
 
 pub loop-byte-init : goal.loop-byte-init

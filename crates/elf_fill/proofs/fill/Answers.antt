@@ -1,5 +1,5 @@
 use Rattle.std.proofs.Common.{arith, rules}
-use Rattle.elf_fill.proofs.Cases.{missing, nothing, filled_by}
+use Rattle.elf_fill.proofs.Cases.{missing, nothing, filled_by, told}
 use Rattle.elf_fill.proofs.fill.Goals as goal
 
 pub returns-in_err-info-clause-value : goal.returns-in_err-info-clause-value
@@ -37,3 +37,10 @@ returns-clause-section_bytes_after c =
     let a = c.args in
     let w = c.in_ok-write_to_buffer.ensures in
     (filled_by a.section_bytes.now a.field (omega arith) (omega arith) c.in_ok-info.ensures.value (search rules) c.relocated.ensures w.value w.output_after).1
+
+pub returns-clause-leaves : goal.returns-clause-leaves
+returns-clause-leaves c base p q =
+    let a = c.args in
+    let w = c.in_ok-write_to_buffer.ensures in
+    let t = filled_by a.section_bytes.now a.field (omega arith) (omega arith) c.in_ok-info.ensures.value (search rules) c.relocated.ensures w.value w.output_after in
+    rw t.1 (told a.section_bytes.now a.field base p (rw t.0 (search rules)))

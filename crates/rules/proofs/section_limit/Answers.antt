@@ -5,8 +5,8 @@ use Rattle.rules.proofs.Runs.{measured}
 use Rattle.rules.proofs.Records.{starred_hold}
 use Rattle.rules.proofs.section_limit.Goals as goal
 
-pub returns-clause-by_index : goal.returns-clause-by_index
-returns-clause-by_index c = same_meaning_of
+pub returns-clause-same_meaning : goal.returns-clause-same_meaning
+returns-clause-same_meaning c = same_meaning_of
 
 pub returns-clause-meaning_worked : goal.returns-clause-meaning_worked
 returns-clause-meaning_worked c = worked

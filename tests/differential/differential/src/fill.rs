@@ -1,4 +1,5 @@
-//! Filling a field: document 02's order over wild's lookup and its `write_to_buffer`, which is given the value, as in wild.
+//! Filling a field: document 02's order over wild's lookup and its `write_to_buffer`, which is given the value. Its callers
+//! in wild aren't among the sources.
 
 use crate::relaxation::SECTION_LIMIT;
 use jitamoro::sys;
@@ -15,7 +16,8 @@ pub const FILLED_TYPES: [u32; 4] = [2, 10, 11, 23];
 pub struct Field {
     pub r_type: u32,
     pub offset: u64,
-    pub address: u64,
+    /// The field's own address.
+    pub place: u64,
     pub value: u64,
     pub addend: i64,
 }
@@ -45,18 +47,31 @@ pub fn write_to_buffer(
 }
 
 impl Field {
-    /// What wild's callers hand to `write_to_buffer`: the place is taken away where the type's row is relative.
+    /// The field whose sum is `sum`.
+    pub fn of_sum(r_type: u32, offset: u64, sum: u64, place: u64, addend: i64) -> Self {
+        let less = if r_type == 2 { place } else { 0 };
+        let value = sum.wrapping_sub(addend as u64).wrapping_add(less);
+        Self {
+            r_type,
+            offset,
+            place,
+            value,
+            addend,
+        }
+    }
+
+    /// What `write_to_buffer` is handed: the place is taken away where the type's row is relative.
     pub fn written(&self, info: RelocationKindInfo) -> u64 {
         let sum = self.value.wrapping_add(self.addend as u64);
         match info.kind {
-            RelocationKind::Relative => sum.wrapping_sub(self.address),
+            RelocationKind::Relative => sum.wrapping_sub(self.place),
             _ => sum,
         }
     }
 
     pub fn port_fill(&self, section: &mut [u8]) -> FilledAnswer {
-        let (address, value, addend) = (self.address, self.value, self.addend);
-        sys::fill(self.r_type, section, self.offset, address, value, addend)
+        let (place, value, addend) = (self.place, self.value, self.addend);
+        sys::fill(self.r_type, section, self.offset, place, value, addend)
     }
 }
 
@@ -110,5 +125,37 @@ pub fn refusal(info: RelocationKindInfo, length: usize) -> u8 {
     match write_to_buffer(info, 0, &mut output[..length]) {
         Err(Unwritten::Bounds) => 16,
         _ => 15,
+    }
+}
+
+#[cfg(test)]
+mod tests {
+    use super::*;
+    use libwild::oracle::RelocationSize;
+
+    /// docs/DIFFERENCES.md's smallest input for 16 before 15, and its neighbours with one of the two alone at fault.
+    #[test]
+    fn both_refusals() {
+        let asked = |value, length| {
+            let field = Field::of_sum(2, 0, value, 0, 0);
+            let (mut port, mut rust) = (vec![0xa5; length], vec![0xa5; length]);
+            let (answer, filled) = (field.port_fill(&mut port), fill(&field, &mut rust));
+            assert_eq!((answer, &port), (filled.answer, &rust));
+            (answer.refusal, filled.unwritten)
+        };
+        let (edge, range, bounds) = (1 << 31, Some(Unwritten::Range), Some(Unwritten::Bounds));
+        assert_eq!(asked(edge, 0), (16, range));
+        assert_eq!(asked(edge - 1, 0), (16, bounds));
+        assert_eq!(asked(edge, 4), (15, range));
+        assert_eq!(asked(edge - 1, 4), (0, None));
+    }
+
+    /// docs/DIFFERENCES.md's row of more than 8 bytes.
+    #[test]
+    #[should_panic(expected = "range end index 9 out of range for slice of length 8")]
+    fn a_row_of_nine_bytes() {
+        let row = oracle::relocation_from_raw(1).unwrap();
+        let size = RelocationSize::ByteSize(9);
+        let _ = write_to_buffer(RelocationKindInfo { size, ..row }, 0, &mut [0; 9]);
     }
 }

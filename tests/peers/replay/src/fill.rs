@@ -3,20 +3,9 @@
 use crate::case::Case;
 use crate::case::Record;
 use jitamoro::sys;
-use std::cell::Cell;
 
 /// The types that the port fills.
 pub const FILLED_TYPES: [u32; 4] = [2, 10, 11, 23];
-
-thread_local! {
-    /// How many fields of each type the port filled.
-    static FILLED: Cell<[usize; 4]> = const { Cell::new([0; 4]) };
-}
-
-/// How many fields of each of `FILLED_TYPES` the port has filled.
-pub fn counts() -> [usize; 4] {
-    FILLED.get()
-}
 
 /// A relocation that is left to fill.
 pub struct Left<'a> {
@@ -47,13 +36,14 @@ impl<'a> Left<'a> {
 
     /// The port's answer for a field of a type that it fills; None where the peer has no value.
     fn by_port(&self, section: &mut [u8], case: &Case) -> Option<sys::FilledAnswer> {
-        let address = case.place.wrapping_add(self.offset);
+        let place = case.place.wrapping_add(self.offset);
         let value = match self.r_type {
             23 => self.record.tp? as u64,
             _ => self.record.address,
         };
         let (r_type, offset, addend) = (self.r_type, self.offset, self.addend);
-        let answer = sys::fill(r_type, section, offset, address, value, addend);
+        let answer = sys::fill(r_type, section, offset, place, value, addend);
+        assert!([0, 15].contains(&answer.refusal), "{answer:?}");
         Some(answer)
     }
 
@@ -71,14 +61,10 @@ impl<'a> Left<'a> {
         }
     }
 
-    /// Writes the field; whether its value is known.
+    /// Writes the field; not where its value isn't known, or the port says that the field can't hold it.
     fn fill(&self, section: &mut [u8], case: &Case) -> bool {
-        if let Some(place) = FILLED_TYPES.iter().position(|it| *it == self.r_type) {
-            let filled = self.by_port(section, case).is_some_and(|it| it.filled);
-            let mut counts = FILLED.get();
-            counts[place] += usize::from(filled);
-            FILLED.set(counts);
-            return filled;
+        if FILLED_TYPES.contains(&self.r_type) {
+            return self.by_port(section, case).is_some_and(|it| it.filled);
         }
         let Some(base) = self.base(case) else {
             return false;
@@ -106,12 +92,17 @@ impl<'a> Left<'a> {
     }
 }
 
-/// The section with its fields filled, or None where a value isn't known.
+/// The section with its fields filled, or None where one can't be.
 pub fn filled(section: &[u8], left: &[Left], case: &Case) -> Option<Vec<u8>> {
     let mut section = section.to_owned();
     let mut left = left.iter().filter(|one| one.width() > 0);
     left.all(|one| one.fill(&mut section, case))
         .then_some(section)
+}
+
+/// How many fields are of each of `FILLED_TYPES`.
+pub fn by_type(left: &[Left]) -> [usize; 4] {
+    FILLED_TYPES.map(|r_type| left.iter().filter(|it| it.r_type == r_type).count())
 }
 
 /// The section with its fields zero.

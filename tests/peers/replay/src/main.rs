@@ -7,10 +7,12 @@
 mod case;
 mod counts;
 mod fill;
+mod filled;
 mod port;
 mod verdict;
 
 use counts::Counts;
+use filled::Filled;
 use std::process::ExitCode;
 
 fn record(text: &str) {
@@ -20,28 +22,22 @@ fn record(text: &str) {
             continue;
         };
         let mut fields: Vec<&str> = line.split(' ').collect();
-        fields[9] = verdict::verdict(&case);
+        fields[9] = verdict::verdict(&case).0;
         println!("{}", fields.join(" "));
     }
 }
 
-fn by_type(filled: [usize; 4]) -> String {
-    let counts = fill::FILLED_TYPES.iter().zip(filled);
-    let counts: Vec<_> = counts
-        .map(|(it, count)| format!("{count} of type {it}"))
-        .collect();
-    counts.join(", ")
-}
-
 fn compare(text: &str, table: bool) -> ExitCode {
     let (mut counts, mut cases, mut differ) = (Counts::default(), 0, 0);
+    let mut filled = Filled::default();
     for line in text.lines().filter(|line| !line.starts_with('#')) {
         let Some(case) = case::parse(line) else {
             println!("not a case: {line}");
             return ExitCode::FAILURE;
         };
-        let now = verdict::verdict(&case);
+        let (now, fields) = verdict::verdict(&case);
         cases += case.peers.len();
+        filled.add(&case, fields);
         if now != case.recorded {
             let (name, kind, recorded) = (&case.name, &case.kind, &case.recorded);
             let peers = case.peers.join(",");
@@ -55,13 +51,13 @@ fn compare(text: &str, table: bool) -> ExitCode {
     } else {
         counts.print()
     }
-    let filled = fill::counts();
+    let unseen = filled.print();
     println!(
-        "peers: {cases} cases, {} verdicts as recorded, {differ} differ; fields filled by the port: {}",
+        "peers: {cases} cases, {} verdicts as recorded, {differ} differ; filled by the port as by the peer: {}",
         cases - differ,
-        by_type(filled)
+        filled.sums()
     );
-    if differ == 0 && cases > 0 && !filled.contains(&0) {
+    if differ == 0 && cases > 0 && unseen == 0 {
         ExitCode::SUCCESS
     } else {
         ExitCode::FAILURE

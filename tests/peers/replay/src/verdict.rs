@@ -3,6 +3,7 @@
 use crate::case::Case;
 use crate::fill::Left;
 use crate::fill::blank;
+use crate::fill::by_type;
 use crate::fill::filled;
 use crate::port::Relaxed;
 use crate::port::relax;
@@ -20,31 +21,34 @@ pub const VERDICTS: [&str; 9] = [
     "port-overflows",
 ];
 
-pub fn verdict(case: &Case) -> &'static str {
+/// The verdict; and how many fields of each of `FILLED_TYPES` the port filled with the peer's own bytes.
+pub fn verdict(case: &Case) -> (&'static str, [usize; 4]) {
     let Some(after) = &case.after else {
-        return "peer-refuses";
+        return ("peer-refuses", [0; 4]);
     };
     let Ok(port) = relax(case) else {
-        return "port-refuses";
+        return ("port-refuses", [0; 4]);
     };
-    if port
-        .left
-        .iter()
-        .any(|left| left.overflows(&port.section, case))
-    {
-        return "port-overflows";
+    let overflows = |left: &Left| left.overflows(&port.section, case);
+    if port.left.iter().any(overflows) {
+        return ("port-overflows", [0; 4]);
     }
-    if filled(&port.section, &port.left, case).as_deref() == Some(after) {
-        return if port.chosen || port.rewritten {
-            "same"
-        } else {
-            "both-keep"
-        };
+    if filled(&port.section, &port.left, case).as_deref() != Some(after) {
+        return (differs(case, &port, after), [0; 4]);
     }
+    let name = match port.chosen || port.rewritten {
+        true => "same",
+        false => "both-keep",
+    };
+    (name, by_type(&port.left))
+}
+
+/// The port's section isn't the peer's.
+fn differs(case: &Case, port: &Relaxed, after: &[u8]) -> &'static str {
     let original: Vec<Left> = case.records.iter().map(Left::unchanged).collect();
     let untouched = blank(after, &original) == blank(&case.before, &original);
     if port.rewritten {
-        rewritten(&port, after, untouched)
+        rewritten(port, after, untouched)
     } else if !untouched {
         "port-keeps"
     } else if port.chosen && filled(&case.before, &original, case).as_deref() == Some(after) {

@@ -49,7 +49,7 @@ fn field(linked: &Linked, record: &Record, answer: &RelaxedAnswer) -> Option<Fie
     Some(Field {
         r_type,
         offset,
-        address: linked.address.wrapping_add(offset),
+        place: linked.address.wrapping_add(offset),
         value: record.address.wrapping_sub(base),
         addend,
     })
@@ -85,7 +85,9 @@ impl Comparison {
                     (rust_filled, Hex(&rust[near.clone()])),
                     || describe("filling", linked.object, linked.section, record),
                 );
-                self.tally.count_field(record, &field, &rust_filled);
+                self.tally
+                    .alone
+                    .count(record.output_kind, &field, &rust_filled);
             }
             let (port, rust) = (&mut port[near.clone()], &mut rust[near.clone()]);
             port.copy_from_slice(&before[near.clone()]);
@@ -145,6 +147,10 @@ impl Comparison {
                 let place = place(linked.object, linked.section, field.offset);
                 format!("filling after a pass, {place}, {field:?}")
             });
+            let output_kind = linked.records[0].output_kind;
+            self.tally
+                .after_pass
+                .count(output_kind, field, &rust_filled);
         }
         self.compare_bytes("filling", linked, [port], rust);
     }

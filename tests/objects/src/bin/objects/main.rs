@@ -14,6 +14,9 @@ use objects::Object;
 use std::collections::BTreeSet;
 use std::process::ExitCode;
 
+/// The archive over whose records filling must meet each answer that they can lead to.
+const LIBC: &str = "libc.a";
+
 fn main() -> ExitCode {
     let mut words: Vec<String> = std::env::args().skip(1).collect();
     let table = words.first().is_some_and(|word| word == "--table");
@@ -30,11 +33,23 @@ fn main() -> ExitCode {
         comparison.tally.print();
     }
     print_counts(files.len() - unread, &all, &comparison);
-    if comparison.differences == 0 && unread == 0 {
+    if comparison.differences == 0 && unread == 0 && all_seen(&all.objects, &comparison) {
         ExitCode::SUCCESS
     } else {
         ExitCode::FAILURE
     }
+}
+
+/// Where libc.a is among the files, whether filling met all that its records lead to.
+fn all_seen(objects: &[Object], comparison: &Comparison) -> bool {
+    if !objects.iter().any(|object| object.file == LIBC) {
+        return true;
+    }
+    let unseen = comparison.tally.unseen();
+    for answer in &unseen {
+        println!("objects: {LIBC} is here, and filling never met: {answer}");
+    }
+    unseen.is_empty()
 }
 
 /// The files as one, and how many couldn't be read.

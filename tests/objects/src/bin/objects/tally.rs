@@ -1,4 +1,5 @@
-//! How often each type met each outcome in a pass, and each type of a field when it was filled, for each output kind.
+//! How often each type met each outcome in a pass, and each type of a field when it was filled, after its record was relaxed
+//! alone and after a pass, for each output kind.
 
 use differential::fill::Field;
 use differential::relaxation::KIND_NAMES;
@@ -63,6 +64,9 @@ const TYPE_NAMES: [&str; 52] = [
     "CODE_6_GOTPC32_TLSDESC",
 ];
 
+/// The types that the port fills, but for 10, of which libc.a has no field.
+const LIBC_FIELDS: [u32; 3] = [2, 11, 23];
+
 #[derive(Clone, Copy, PartialEq, Eq, PartialOrd, Ord)]
 enum Outcome {
     Relaxed(u8),
@@ -75,16 +79,66 @@ enum Outcome {
 /// For output kinds 0 to 5.
 type Counts = [u64; 6];
 
+/// Of a field's type.
+#[derive(Default)]
+pub struct Fields(BTreeMap<(u32, Outcome), Counts>);
+
 #[derive(Default)]
 pub struct Tally {
     steps: BTreeMap<(u32, Outcome), Counts>,
-    /// Of records relaxed alone.
-    fields: BTreeMap<(u32, Outcome), Counts>,
+    /// Filled after their records were relaxed alone.
+    pub alone: Fields,
+    /// Filled after a pass, none of a skipped record.
+    pub after_pass: Fields,
     /// By refusal, 0 where the end was granted.
     ends: BTreeMap<u8, Counts>,
 }
 
+impl Fields {
+    /// A field whose record wasn't refused, which therefore begins in a section that isn't too long.
+    pub fn count(&mut self, output_kind: u8, field: &Field, answer: &FilledAnswer) {
+        assert!(![1, 2].contains(&answer.refusal), "{field:?}: {answer:?}");
+        let outcome = match (answer.refusal, answer.filled) {
+            (0, true) => Outcome::Filled,
+            (0, false) => Outcome::None,
+            (refusal, _) => Outcome::Refused(refusal),
+        };
+        let counts = self.0.entry((field.r_type, outcome)).or_default();
+        counts[usize::from(output_kind)] += 1;
+    }
+
+    fn add(&mut self, other: Self) {
+        for (field, counts) in other.0 {
+            add_counts(self.0.entry(field).or_default(), &counts);
+        }
+    }
+
+    /// Which types of libc.a's fields were never filled in a static fixed output, and whether no field was none.
+    fn unseen(&self) -> Vec<String> {
+        let filled = LIBC_FIELDS.map(|r_type| (r_type, Outcome::Filled));
+        let counts = |it| self.0.get(it).copied().unwrap_or_default();
+        let filled = filled.iter().filter(|it| counts(it)[0] == 0);
+        let mut unseen: Vec<_> = filled
+            .map(|(r_type, _)| format!("type {r_type} filled"))
+            .collect();
+        if !self.0.keys().any(|(_, outcome)| *outcome == Outcome::None) {
+            unseen.push("none".to_string());
+        }
+        unseen
+    }
+}
+
 impl Tally {
+    /// What filling must have met over the records of libc.a, and what it didn't.
+    pub fn unseen(&self) -> Vec<String> {
+        let parts = [("alone", &self.alone), ("after a pass", &self.after_pass)];
+        let unseen = parts.into_iter().flat_map(|(part, fields)| {
+            let named = move |it| format!("{it}, {part}");
+            fields.unseen().into_iter().map(named)
+        });
+        unseen.collect()
+    }
+
     pub fn count_step(&mut self, record: &Record, answer: &StepAnswer) {
         let choice = &answer.relaxed.choice;
         let outcome = match (choice.refusal, answer.skipped, choice.chosen) {
@@ -97,16 +151,6 @@ impl Tally {
         counts[usize::from(record.output_kind)] += 1;
     }
 
-    pub fn count_field(&mut self, record: &Record, field: &Field, answer: &FilledAnswer) {
-        let outcome = match (answer.refusal, answer.filled) {
-            (0, true) => Outcome::Filled,
-            (0, false) => Outcome::None,
-            (refusal, _) => Outcome::Refused(refusal),
-        };
-        let counts = self.fields.entry((field.r_type, outcome)).or_default();
-        counts[usize::from(record.output_kind)] += 1;
-    }
-
     pub fn count_end(&mut self, output_kind: u8, refusal: u8) {
         self.ends.entry(refusal).or_default()[usize::from(output_kind)] += 1;
     }
@@ -115,9 +159,8 @@ impl Tally {
         for (step, counts) in other.steps {
             add_counts(self.steps.entry(step).or_default(), &counts);
         }
-        for (field, counts) in other.fields {
-            add_counts(self.fields.entry(field).or_default(), &counts);
-        }
+        self.alone.add(other.alone);
+        self.after_pass.add(other.after_pass);
         for (refusal, counts) in other.ends {
             add_counts(self.ends.entry(refusal).or_default(), &counts);
         }
@@ -142,7 +185,11 @@ impl Tally {
             print_row(&outcome_name(outcome), &counts);
         }
         print_row("records", &all);
-        print_by_type("Field's type | R_X86_64_ | Filling", &self.fields);
+        print_by_type("Field's type | R_X86_64_ | Filling", &self.alone.0);
+        print_by_type(
+            "After a pass: field's type | R_X86_64_ | Filling",
+            &self.after_pass.0,
+        );
         print_head("End of a section's pass");
         for (&refusal, counts) in &self.ends {
             let name = if refusal == 0 {

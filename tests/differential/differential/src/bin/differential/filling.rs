@@ -1,6 +1,7 @@
 //! Filling a field in short sections: every type, place and length, every edge of the ranges and of the sums.
 
 use crate::Comparison;
+use crate::fill_tally::Part;
 use crate::relaxing::SHORT;
 use crate::relaxing::Section;
 use crate::relaxing::addend_edges;
@@ -24,14 +25,14 @@ impl Comparison {
         }
         for _ in 0..self.records / RECORDS_A_FIELD {
             let (field, section) = self.random_field();
-            self.fill(&field, &section);
+            self.fill(Part::Random, &field, &section);
         }
     }
 
-    fn fill(&mut self, field: &Field, section: &Section) {
+    fn fill(&mut self, part: Part, field: &Field, section: &Section) {
         let mut expected = *section;
         let rust = fill::fill(field, expected.lent_mut());
-        self.tally.filling.count(field, &rust);
+        self.tally.filling.count(part, field, section.length, &rust);
         if !rust.answer.filled {
             assert_eq!(expected, *section, "the Rust writes nothing");
         }
@@ -48,20 +49,14 @@ impl Comparison {
             let section = self.random_section(length);
             for offset in (0..length as u64 + 3).chain(far_offsets()) {
                 for value in [0x1234_5678, 1 << 40] {
-                    let field = Field {
-                        r_type,
-                        offset,
-                        address: 0,
-                        value,
-                        addend: 0,
-                    };
-                    self.fill(&field, &section);
+                    let field = Field::of_sum(r_type, offset, value, 0, 0);
+                    self.fill(Part::Edges, &field, &section);
                 }
             }
         }
     }
 
-    /// Values, addends and addresses at the ends of every range and of 64 bits, in a section that has room and in one
+    /// Values, addends and places at the ends of every range and of 64 bits, in a section that has room and in one
     /// that hasn't.
     fn every_sum(&mut self, r_type: u32) {
         for (length, offset) in [
@@ -72,22 +67,22 @@ impl Comparison {
             let section = self.random_section(length);
             for value in address_edges() {
                 for addend in addend_edges() {
-                    for address in address_edges() {
+                    for place in address_edges() {
                         let field = Field {
                             r_type,
                             offset,
-                            address,
+                            place,
                             value,
                             addend,
                         };
-                        self.fill(&field, &section);
+                        self.fill(Part::Edges, &field, &section);
                     }
                 }
             }
         }
     }
 
-    /// Mostly one that is filled.
+    /// Mostly one that is filled. What must be seen of them is counted apart.
     fn random_field(&mut self) -> (Field, Section) {
         let mut dice = Dice::new(&mut self.random);
         let length = if dice.one_in(16) {
@@ -112,20 +107,13 @@ impl Comparison {
             self.random.signed(33)
         };
         let wide = if dice.one_in(2) { 64 } else { 31 };
-        let (addend, address) = (self.random.signed(wide), self.random.signed(wide) as u64);
-        let value = match r_type {
-            2 => (sum as u64)
-                .wrapping_sub(addend as u64)
-                .wrapping_add(address),
-            _ => (sum as u64).wrapping_sub(addend as u64),
-        };
-        let field = Field {
-            r_type,
-            offset,
-            address,
-            value,
-            addend,
-        };
+        let addend = self.random.signed(wide);
+        let mut place = self.random.signed(wide) as u64;
+        // About 2^63, if it was about 0.
+        if dice.one_in(8) {
+            place ^= 1 << 63;
+        }
+        let field = Field::of_sum(r_type, offset, sum as u64, place, addend);
         (field, self.random_section(length))
     }
 }

@@ -4,6 +4,7 @@
 
 use crate::Comparison;
 use crate::GUARD;
+use crate::fill_tally::Part;
 use crate::pass::EMPTY;
 use crate::relaxing;
 use crate::tally::Run;
@@ -191,17 +192,12 @@ impl Comparison {
     }
 
     fn long_filling(&mut self, long: &mut Long, offset: u64) {
-        for r_type in [0, 2, 4, 10, 11, 23, 28] {
+        for r_type in [0, 2, 4, 10, 11, 23, 52] {
             for value in [0x1234_5678, -1i64 as u64] {
-                let field = Field {
-                    r_type,
-                    offset,
-                    address: 0,
-                    value,
-                    addend: 0,
-                };
+                let field = Field::of_sum(r_type, offset, value, 0, 0);
                 let (rust, bytes) = long.ask(|section| fill::fill(&field, section));
-                self.tally.filling.count(&field, &rust);
+                let tally = &mut self.tally.filling;
+                tally.count(Part::Long, &field, long.length, &rust);
                 let port = long.ask(|section| field.port_fill(section));
                 self.compare_long(long, port, (rust.answer, bytes), &field);
             }

@@ -2,6 +2,7 @@
 //! `differential [SEED [RECORDS]]`, with as many relocation records at random.
 //! A comparison is one input with all of its answer.
 
+mod fill_tally;
 mod filling;
 mod long_sections;
 mod pass;

@@ -1,10 +1,8 @@
-//! How often each answer of choosing, rewriting, relaxing, filling and the pass was seen, those while a skip is pending
-//! once more, and each figure of a pass's tally raised; and which ModRM bytes rewriting met.
+//! How often each answer of choosing, rewriting, relaxing and the pass was seen, those while a skip is pending once more,
+//! and each figure of a pass's tally raised; and which ModRM bytes rewriting met. Filling's answers are counted in
+//! `fill_tally.rs`.
 
-use differential::fill::FILLED_TYPES;
-use differential::fill::Field;
-use differential::fill::Filled;
-use differential::fill::Unwritten;
+use crate::fill_tally::FillTally;
 use differential::pass::BYTES;
 use differential::pass::EMPTY_TYPE;
 use differential::pass::NONE;
@@ -28,21 +26,6 @@ pub struct Answers {
     refused: [u64; 7],
     /// By kind and instruction offset.
     kinds: [[u64; 7]; 19],
-}
-
-/// The answers of filling.
-#[derive(Default)]
-pub struct FillAnswers {
-    none: u64,
-    /// By type, in the order of `FILLED_TYPES`.
-    filled: [u64; 4],
-    /// By refusal.
-    refused: [u64; 17],
-    /// Refused with 16 where wild, which tests the range first, says that the value is outside it.
-    range_first: u64,
-    /// Filled though value and addend, or the place, wrap on the way.
-    wrapped_sum: u64,
-    wrapped_place: u64,
 }
 
 /// The answers of a pass: of its steps, and of its endings.
@@ -96,7 +79,7 @@ pub struct Tally {
     pub choosing: Answers,
     pub rewriting: Answers,
     pub relaxing: Answers,
-    pub filling: FillAnswers,
+    pub filling: FillTally,
     pub pass: PassAnswers,
     pub pending: PendingAnswers,
 }
@@ -144,41 +127,6 @@ impl ModRmBytes {
             }
         }
         unseen
-    }
-}
-
-impl FillAnswers {
-    pub fn count(&mut self, field: &Field, filled: &Filled) {
-        let answer = &filled.answer;
-        if answer.refusal != 0 {
-            self.refused[usize::from(answer.refusal)] += 1;
-            let range_first = answer.refusal == 16 && filled.unwritten == Some(Unwritten::Range);
-            self.range_first += u64::from(range_first);
-        } else if answer.filled {
-            let place = FILLED_TYPES.iter().position(|it| *it == field.r_type);
-            self.filled[place.unwrap()] += 1;
-            let (sum, wraps) = field.value.overflowing_add(field.addend as u64);
-            self.wrapped_sum += u64::from(wraps);
-            self.wrapped_place += u64::from(field.r_type == 2 && sum < field.address);
-        } else {
-            self.none += 1;
-        }
-    }
-
-    /// Prints how often each answer was seen, and says how many never were.
-    fn print(&self) -> usize {
-        let filled = FILLED_TYPES.iter().zip(self.filled);
-        let filled = filled.map(|(it, count)| (format!("type {it}"), count));
-        let named = [
-            ("none", self.none),
-            ("filled, the sum wraps", self.wrapped_sum),
-            ("filled, the place wraps", self.wrapped_place),
-            ("16 where wild's is 15", self.range_first),
-        ];
-        let named = named.map(|(name, count)| (name.to_string(), count));
-        let refused = [1, 2, 7, 16, 15];
-        let refused = refused.map(|it| (format!("refusal {it}"), self.refused[it]));
-        print_rows("filling", filled.chain(named).chain(refused))
     }
 }
 

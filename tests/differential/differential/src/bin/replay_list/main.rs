@@ -1,7 +1,8 @@
 //! Writes a sample of wild's answers, for the port's replay program to check where the Rust isn't
 //! at hand: a line for each record of 40 bytes in hex. A record's first byte says what it is, its
-//! fields follow without gaps, numbers low byte first, and zeros fill the rest. With the word
-//! `relax` it writes the other list, of choosing, rewriting and relaxing.
+//! fields follow without gaps, numbers low byte first, and zeros fill the rest. Where wild differs as
+//! docs/DIFFERENCES.md says, its own answer is seen to be that, and the line has the port's. With the
+//! word `relax` it writes the other list, of choosing, rewriting and relaxing.
 
 mod relax;
 
@@ -12,6 +13,7 @@ use differential::around;
 use differential::byte_size;
 use differential::fill;
 use differential::fill::Field;
+use differential::fill::Unwritten;
 use differential::kind_number;
 use libwild::oracle;
 use libwild::oracle::AllowedRange;
@@ -193,35 +195,37 @@ fn contains(r_type: u32, random: &mut Random) {
         .into_iter()
         .flat_map(|edge| around(edge, 1));
     for value in edges.chain((0..9).map(|_| random.signed(64))) {
-        // Left out: the one listed difference, i64::MAX in an unchecked range.
-        if range != AllowedRange::no_check() || value != i64::MAX {
-            let answer = range.contains(value);
-            record(&[
-                &[7],
-                &r_type.to_le_bytes(),
-                &value.to_le_bytes(),
-                &[answer.into()],
-            ]);
+        let mut answer = range.contains(value);
+        if is_listed_difference(range, value) {
+            assert!(!answer, "the Rust leaves it out");
+            answer = true;
         }
+        record(&[
+            &[7],
+            &r_type.to_le_bytes(),
+            &value.to_le_bytes(),
+            &[answer.into()],
+        ]);
     }
 }
 
-/// Wild's `write_to_buffer` of a type's row: both sides of each end of its range, in buffers about its size, and a value of
-/// every range in buffers of every length.
+/// i64::MAX in an unchecked range: the Rust's answer is asserted to be the one in docs/DIFFERENCES.md, and the list has the
+/// port's.
+fn is_listed_difference(range: AllowedRange, value: i64) -> bool {
+    range == AllowedRange::no_check() && value == i64::MAX
+}
+
+/// Wild's `write_to_buffer` of a type's row, in buffers of every length: about both ends of its range and of 64 bits, and
+/// values of different bytes.
 fn writes(r_type: u32) {
     let info = oracle::relocation_from_raw(r_type).unwrap();
-    let size = byte_size(info.size);
-    let ends = [info.range.min, info.range.max].map(|end| [end.wrapping_sub(1), end]);
-    let mut values = ends.concat();
-    values.extend([-1, 0x0123_4567_89ab_cdef]);
-    // Left out: i64::MAX in an unchecked range.
-    values.retain(|value| info.range != AllowedRange::no_check() || *value != i64::MAX);
-    let lengths = [size.saturating_sub(1), size, 9];
-    let about = |value| lengths.map(|length| (value, length));
-    let every = (0..=9).map(|length| (0x12, length));
-    let asked: BTreeSet<_> = values.into_iter().flat_map(about).chain(every).collect();
-    for (value, length) in asked {
-        write(r_type, value, length);
+    let ends = [info.range.min, info.range.max];
+    let about = ends.into_iter().flat_map(|end| around(end, 1));
+    let wide = [0, -1, i64::MIN, i64::MAX];
+    let inside = [0x12, 0x1234_5678, 0x0123_4567_89ab_cdef];
+    let values: BTreeSet<i64> = about.chain(wide).chain(inside).collect();
+    for value in values {
+        (0..=9).for_each(|length| write(r_type, value, length));
     }
 }
 
@@ -229,9 +233,19 @@ fn write(r_type: u32, value: i64, length: u8) {
     let info = oracle::relocation_from_raw(r_type).unwrap();
     let mut buffer = [BEFORE; 10];
     let lent = &mut buffer[..usize::from(length)];
-    let answer = match fill::write_to_buffer(info, value as u64, lent) {
+    let mut written = fill::write_to_buffer(info, value as u64, lent);
+    let outside = !info.range.contains(value);
+    let range_first = written == Err(Unwritten::Range);
+    assert_eq!(range_first, outside, "the Rust tests the range first");
+    if is_listed_difference(info.range, value) {
+        assert!(outside, "the Rust leaves it out");
+        let size = usize::from(byte_size(info.size));
+        let field = lent.get_mut(..size).ok_or(Unwritten::Bounds);
+        written = field.map(|field| field.copy_from_slice(&value.to_le_bytes()[..size]));
+    }
+    let answer = match written {
         Ok(()) => 255,
-        Err(_) => fill::refusal(info, lent.len()),
+        Err(_) => fill::refusal(info, usize::from(length)),
     };
     let asked = r_type.to_le_bytes();
     record(&[
@@ -265,9 +279,11 @@ fn fills() {
         u32::MAX.into(),
         1 << 32,
         -1,
+        i64::MAX,
+        i64::MIN,
     ];
     for (length, offset) in places {
-        for r_type in [0, 2, 4, 10, 11, 23, 28] {
+        for r_type in [0, 2, 4, 10, 11, 23, 52] {
             for value in values {
                 fill_of(r_type, length, offset, (0x40_1000, value, 0));
                 fill_of(r_type, length, offset, (u64::MAX - 2, value, i64::MIN));
@@ -277,22 +293,14 @@ fn fills() {
 }
 
 /// A field whose sum is `sum`, with an addend and a place of its own.
-fn fill_of(r_type: u32, length: u8, offset: u8, (address, sum, addend): (u64, i64, i64)) {
-    let place = if r_type == 2 { address } else { 0 };
-    let value = (sum as u64).wrapping_sub(addend as u64).wrapping_add(place);
-    let field = Field {
-        r_type,
-        offset: offset.into(),
-        address,
-        value,
-        addend,
-    };
+fn fill_of(r_type: u32, length: u8, offset: u8, (place, sum, addend): (u64, i64, i64)) {
+    let field = Field::of_sum(r_type, offset.into(), sum as u64, place, addend);
     let mut buffer = [BEFORE; 10];
     let answer = fill::fill(&field, &mut buffer[..usize::from(length)]).answer;
     record(&[
         &[10, r_type as u8, length, offset],
-        &address.to_le_bytes(),
-        &value.to_le_bytes(),
+        &place.to_le_bytes(),
+        &field.value.to_le_bytes(),
         &addend.to_le_bytes(),
         &[if answer.filled { 255 } else { answer.refusal }],
         &buffer,
