@@ -1,4 +1,4 @@
 pub mod Past
-pub mod FromFn
+pub mod Fill
 pub mod Calls
 pub mod Decimal

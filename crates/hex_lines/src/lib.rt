@@ -6,9 +6,11 @@ ghost use Rattle.std.specs.Prelude.{◌≡◌, ℕ, ◌+◌, ◌%◌, ◌^◌, �
 ghost use Rattle.std.specs.List.{FoldsTo};
 ghost use Rattle.hex_lines.specs.Hex.{Says, digit_of, byte_at, bytes_from, four_at, eight_at};
 
-use std::fmt;
+use std::fmt::{self, Write};
 
 const STDIN_FILENO: i32 = 0;
+
+const STDOUT_FILENO: i32 = 1;
 
 // More lines than any list has, since a loop over input needs an end.
 const MAX_LINES: u64 = 1_000_000;
@@ -46,12 +48,30 @@ impl Line<'_> {
         }
     }
 
+    // Byte `at + k`.
+    #[tactic(auto, using(crate::proofs::Past::byte_past))]
+    fn byte_from(self, at: usize, k: usize) -> u8
+        ensures { result ≡ byte_at self.entry.digits.now (at + k) }
+    {
+        self.byte(at.saturating_add(k))
+    }
+
+    // Fills `out` with the bytes from `at` on, 0 past the line's end.
+    pub fn fill_from(self, at: usize, out: &mut [u8])
+        ensures { out.new ≡ bytes_from self.entry.digits.now at (length out.old) }
+    {
+        for (k, byte) in out.iter_mut().enumerate() {
+            *byte = self.byte_from(at, k);
+        }
+    }
+
     // The `N` bytes from `at` on, 0 past the line's end.
-    #[tactic(auto, using(crate::proofs::Past::byte_past, crate::proofs::FromFn::made))]
     pub fn bytes_at<const N: usize>(self, at: usize) -> [u8; N]
         ensures { result ≡ bytes_from self.entry.digits.now at N }
     {
-        std::array::from_fn(|k| self.byte(at.saturating_add(k)))
+        let mut bytes = [0; N];
+        self.fill_from(at, &mut bytes);
+        bytes
     }
 
     // The four bytes from `at` on, as a number.
@@ -94,6 +114,11 @@ pub struct Count<'a> {
 }
 
 impl<'a> Count<'a> {
+    // Prints the line. That it is printed is no promise's: no contract speaks of what is written, and what can't be is lost.
+    pub fn print(self) {
+        let _ = writeln!(Stdout, "{self}");
+    }
+
     // None yet. Of every count the text has as few decimal digits as hold it, the most significant first.
     #[tactic(auto, using(crate::proofs::Decimal::decimal_says))]
     pub fn new(name: &'a str) -> Self
@@ -110,6 +135,17 @@ impl<'a> Count<'a> {
         ensures name { self.new.name ≡ self.old.name }
     {
         self.count = self.count.wrapping_add(u64::from(agrees));
+    }
+}
+
+// Standard output, as the case program writes to it.
+#[derive(Drop)]
+struct Stdout;
+
+impl fmt::Write for Stdout {
+    fn write_str(&mut self, s: &str) -> fmt::Result {
+        io::write_all(STDOUT_FILENO, s.as_bytes());
+        Ok(())
     }
 }
 

@@ -216,7 +216,7 @@ fn fill_agrees(line: Line) -> bool {
 }
 
 // Kept: alike in the four programs that replay; replay_relax says why it is no plainer as one.
-fn main(rt: HostRuntime) -> std::io::Result<()> {
+fn main() {
     // How many records of each function agree, and how many of any function don't.
     let mut agree = [
         "output kinds",
@@ -241,7 +241,7 @@ fn main(rt: HostRuntime) -> std::io::Result<()> {
         differ.more(!agrees);
     });
     for count in agree {
-        println!(rt; "{count}")?;
+        count.print();
     }
-    println!(rt; "{differ}")
+    differ.print();
 }

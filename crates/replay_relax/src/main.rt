@@ -137,7 +137,7 @@ fn answer_at(line: Line) -> RelaxedAnswer {
 
 // Kept: alike in the four programs that replay. As one function of hex_lines (tried) it is no plainer: the counts lie in an
 // array beside that of their names, a line is counted at two places, and how many lines were read is promised no more.
-fn main(rt: HostRuntime) -> std::io::Result<()> {
+fn main() {
     // How many lines of each function agree, and how many of any function don't.
     let mut agree = [
         "choosing",
@@ -158,7 +158,7 @@ fn main(rt: HostRuntime) -> std::io::Result<()> {
         differ.more(!agrees);
     });
     for count in agree {
-        println!(rt; "{count}")?;
+        count.print();
     }
-    println!(rt; "{differ}")
+    differ.print();
 }

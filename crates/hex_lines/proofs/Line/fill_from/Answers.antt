@@ -1,0 +1,7 @@
+-- One byte more.
+use Rattle.std.proofs.Common.{rules}
+use Rattle.hex_lines.proofs.Fill.{byte_more}
+use Rattle.hex_lines.proofs.Line.fill_from.Goals as goal
+
+pub loop-k-preserved : goal.loop-k-preserved
+loop-k-preserved c = (search rules, byte_more _ _ _ _ _ (search rules) c.loop-k.invariant.1 c.byte_from.ensures)
