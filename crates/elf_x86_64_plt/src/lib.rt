@@ -2,6 +2,7 @@
 #![tactic(auto)]
 
 ghost use Rattle.std.specs.Prelude.{◌≡◌, ◌+◌, ◌≤◌, true, length, replicate};
+ghost use Rattle.rules.specs.Range.{signed, byte_range, Keeps, LowPart};
 ghost use Rattle.rules.specs.Plt.{plt_answer, plt_bytes, padding, displacement};
 ghost use Rattle.rules.specs.Records.{PltWorked};
 
@@ -13,8 +14,8 @@ const PLT_ENTRY_TEMPLATE: &[u8] =
 
 // Writes a PLT entry that jumps through the GOT entry. Refusals: 8 where the buffer isn't 16 bytes
 // long, which changes nothing; 9 where the displacement doesn't fit 32 bits, which leaves the blank
-// template.
-#[tactic(auto, using(rules::proofs::Records::plt_worked), unfolding(rules::specs::Plt::plt_answer, rules::specs::Plt::plt_bytes, rules::specs::Plt::template, rules::specs::Plt::in_reach, rules::specs::Range::byte_range, rules::specs::Range::signed64))]
+// template. It fits exactly where its low four bytes, read back with their sign, are the displacement.
+#[tactic(auto, using(rules::proofs::Records::plt_worked, rules::proofs::Widths::keeps, rules::proofs::Widths::four, rules::proofs::Widths::low_part), unfolding(rules::specs::Plt::plt_answer, rules::specs::Plt::plt_bytes, rules::specs::Plt::template, rules::specs::Plt::in_reach, rules::specs::Range::byte_range, rules::specs::Range::signed64))]
 pub fn write_plt_entry(
     plt_entry: &mut [u8],
     got_address: u64,
@@ -22,6 +23,8 @@ pub fn write_plt_entry(
 ) -> Result<(), Refusal>
     ensures result_value { result ≡ plt_answer plt_entry.old got_address plt_address }
     ensures plt_entry_after { plt_entry.new ≡ plt_bytes plt_entry.old got_address plt_address }
+    ensures keeps { Keeps 4 signed (byte_range 4 signed) }
+    ensures low_part { LowPart 4 }
     ensures plt_worked { PltWorked }
 {
     if plt_entry.len() != 16 {
