@@ -2,3 +2,4 @@ pub mod Puts
 pub mod Decimals
 pub mod Bounds
 pub mod Sample
+pub mod Digits
