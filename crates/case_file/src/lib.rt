@@ -5,6 +5,7 @@ ghost use Rattle.std.specs.Prelude.{◌≡◌, ◌+◌, ◌*◌, ◌≤◌, ◌<
 ghost use Rattle.std.proofs.lemmas.List.Edits.{sets};
 ghost use Rattle.io.specs.Counts.{IsPrefixLen};
 ghost use Rattle.hex.specs.Hex.{encode_lower, lower_digits};
+ghost use Rattle.case_read.specs.Case.{record_of, answer_of};
 ghost use Rattle.case_read.specs.Reading.{records};
 ghost use Rattle.case_file.specs.Text.{decimal, signed_decimal, hex, spaced};
 ghost use Rattle.case_file.specs.CaseFile.{field, line_end, moved_fields, relaxed_fields, fields, line, line_of, lines, text};
@@ -158,9 +159,9 @@ impl Text<'_> {
 
     #[tactic(auto, using(crate::proofs::Bounds::line_bound), unfolding(crate::specs::CaseFile::line_of))]
     fn put_record(&mut self, number: u64, read: Result<Case<'_>, Refusal>)
-        requires { written self.old + most_of read ≤ capacity self.old }
-        ensures line { self.new ≡ put self.old (line_of number read.entry) }
-        ensures bound { length (line_of number read.entry) ≤ most_of read.entry }
+        requires { written self.old + most_of (answer_of read) ≤ capacity self.old }
+        ensures line { self.new ≡ put self.old (line_of number (answer_of read.entry)) }
+        ensures bound { length (line_of number (answer_of read.entry)) ≤ most_of (answer_of read.entry) }
     {
         match read {
             Ok(case) => self.put_case(number, case),
@@ -171,9 +172,9 @@ impl Text<'_> {
     // Relaxes the record of a case alone, in a copy of its section.
     #[tactic(auto, using(crate::proofs::Bounds::line_bound), unfolding(crate::specs::CaseFile::line_of))]
     fn put_case(&mut self, number: u64, case: Case<'_>)
-        requires { written self.old + most_of (Ok case) ≤ capacity self.old }
-        ensures line { self.new ≡ put self.old (line_of number (Ok case.entry)) }
-        ensures bound { length (line_of number (Ok case.entry)) ≤ most_of (Ok case.entry) }
+        requires { written self.old + most_of (Ok (record_of case)) ≤ capacity self.old }
+        ensures line { self.new ≡ put self.old (line_of number (Ok (record_of case.entry))) }
+        ensures bound { length (line_of number (Ok (record_of case.entry))) ≤ most_of (Ok (record_of case.entry)) }
     {
         // Kept: a fixed buffer, since nothing is put on the heap.
         let mut buffer = [0; 4096];

@@ -1,46 +1,22 @@
 // The case file of document 01: the records of a file, one after the other.
 #![tactic(auto)]
 
-ghost use Rattle.std.specs.Prelude.{◌≡◌, ◌+◌, ◌≤◌, length, take, drop, IfOk};
+ghost use Rattle.std.specs.Prelude.{◌≡◌, ◌+◌, ◌≤◌, length, take, drop, option_map, IfOk};
 ghost use Rattle.std.specs.Result.{ForOk};
 ghost use Rattle.std.specs.Int.{w64, from_le_bytes};
+ghost use Rattle.case_read.specs.Case.{answer_of};
 ghost use Rattle.case_read.specs.Reading.{first, read_at, rest_after, records};
 
+mod case;
+
+pub use case::Case;
 use refusal::Refusal;
 use rules::Relocation;
 use std::marker::Model;
 
-// A record of the file, and its section.
-#[derive(Drop)]
-pub struct Case<'a> {
-    pub rel: Relocation,
-    pub section: &'a [u8],
-}
-
-// A clause sees the section's bytes.
-impl<'a> Model for Case<'a> {
-    ghost use Rattle.std.specs.Prelude.{◌≤◌, length};
-    ghost use Rattle.case_read.specs.Record.{Record};
-
-    ghost Value = { Record };
-
-    ghost view = { λ c. record { rel = c.rel; section = c.section.now } };
-
-    ghost invariant = { λ c. length c.section.now ≤ 4096 };
-}
-
-impl Case<'_> {
-    // How many bytes of the file it takes.
-    fn size(&self) -> usize
-        ensures { result ≡ 26 + length self.now.section }
-    {
-        26 + self.section.len()
-    }
-}
-
 // The record at a place of a file, if one stands there. Refusals 11, 10, 12, 13, 11.
 pub fn read_at(file: &[u8], at: usize) -> Option<Result<Case<'_>, Refusal>>
-    ensures { result ≡ read_at file.now at }
+    ensures { option_map answer_of result ≡ read_at file.now at }
 {
     if file.len() <= at {
         return None;
@@ -77,20 +53,17 @@ impl<'a> Records<'a> {
 }
 
 impl<'a> Iterator for Records<'a> {
-    ghost use Rattle.std.specs.Iterator.{YieldsFirst, item_count};
+    ghost use Rattle.std.specs.Iterator.{YieldsFirstBy, item_count};
 
     type Item = Result<Case<'a>, Refusal>;
 
-    ghost next_gives = { YieldsFirst (λ r. r) };
+    ghost next_gives = { YieldsFirstBy answer_of (λ r. r) };
 
     ghost remaining = { item_count (λ r. r) };
 
-    #[tactic(auto, using(crate::proofs::Rest::next, crate::proofs::Rest::no_more))]
+    #[tactic(auto, using(crate::proofs::Rest::next, crate::proofs::Rest::no_more, crate::proofs::Rest::whole))]
     fn next(&mut self) -> Option<Result<Case<'a>, Refusal>> {
-        if self.rest.is_empty() {
-            return None;
-        }
-        let read = first(self.rest);
+        let read = read_at(self.rest, 0)?;
         self.rest = rest_after(self.rest, &read);
         Some(read)
     }
@@ -98,8 +71,8 @@ impl<'a> Iterator for Records<'a> {
 
 // What is left after the first record.
 fn rest_after<'a>(bytes: &'a [u8], read: &Result<Case<'_>, Refusal>) -> &'a [u8]
-    requires { ForOk read.now (λ c. 26 + length c.section ≤ length bytes.now) }
-    ensures { result.now ≡ rest_after bytes.now read.now }
+    requires { ForOk read.now (λ c. 26 + length c.section.now ≤ length bytes.now) }
+    ensures { result.now ≡ rest_after bytes.now (answer_of read.now) }
 {
     match read {
         Ok(case) => &bytes[case.size()..],
@@ -110,8 +83,8 @@ fn rest_after<'a>(bytes: &'a [u8], read: &Result<Case<'_>, Refusal>) -> &'a [u8]
 // The record at the start of these bytes.
 #[tactic(auto, unfolding(crate::specs::Reading::first, rules::specs::Range::signed64))]
 fn first(bytes: &[u8]) -> Result<Case<'_>, Refusal>
-    ensures value { result ≡ first bytes.now }
-    ensures within { IfOk result (λ c. 26 + length c.section ≤ length bytes.now) }
+    ensures value { answer_of result ≡ first bytes.now }
+    ensures within { IfOk result (λ c. 26 + length c.section.now ≤ length bytes.now) }
 {
     if bytes.len() < 26 {
         return Err(Refusal::FileEndsInside);
