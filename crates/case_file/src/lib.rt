@@ -201,7 +201,7 @@ pub fn print_cases(file: &[u8], out: &mut [u8; 458923]) -> usize
     text.len
 }
 
-// The library's `hex::encode_to_slice`.
+// Writes two digits to a byte, as the library's `hex::encode_to_slice` does.
 // Kept: by hand, since a byte takes 10 instructions by the library's table, and 3 by this.
 fn encode(section: &[u8], out: &mut [u8])
     requires { length out.old ≡ 2 * length section.now }

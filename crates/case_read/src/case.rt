@@ -1,4 +1,4 @@
-// A record of the file, and its section.
+// A record of the file, and its section: a module of its own, since the definition that says which record it is speaks of it.
 ghost use Rattle.std.specs.Prelude.{◌≡◌, ◌+◌, ◌≤◌, length};
 
 use rules::Relocation;

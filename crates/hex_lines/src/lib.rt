@@ -114,11 +114,6 @@ pub struct Count<'a> {
 }
 
 impl<'a> Count<'a> {
-    // Prints the line. That it is printed is no promise's: no contract speaks of what is written, and what can't be is lost.
-    pub fn print(self) {
-        let _ = writeln!(Stdout, "{self}");
-    }
-
     // None yet. Of every count the text has as few decimal digits as hold it, the most significant first.
     #[tactic(auto, using(crate::proofs::Decimal::decimal_says))]
     pub fn new(name: &'a str) -> Self
@@ -135,6 +130,12 @@ impl<'a> Count<'a> {
         ensures name { self.new.name ≡ self.old.name }
     {
         self.count = self.count.wrapping_add(u64::from(agrees));
+    }
+
+    // Prints the line. That it is printed is no promise's: no contract speaks of what is written, and what can't be is lost.
+    // Kept: not by `println!`, whose error would end the program with another status, or be thrown away too.
+    pub fn print(self) {
+        let _ = writeln!(Stdout, "{self}");
     }
 }
 
